@@ -1,0 +1,82 @@
+-- The image of a directory as its bytes come together: those below the check from the front, then the two of the check, which looks at no others.
+use mathlib.Core.Path.{_≡_, refl, sym, ap, ap₂, _∙_}
+use mathlib.Core.List.{List, [], _∷_, _++_, map, append-nil}
+use Prim.Native.Nat.{ℕ, zero, suc, _+_, _*_, _≤_, _<_}
+use native.Mathlib.Omega.{arith}
+use lib.ListN.{length, getD, take, drop, set, length-append, drop-of-length-le}
+use lib.Seq.{getD-take, take-length}
+use lib.Dec.{eqb}
+use borrow.Author.Tests.{eq-eqb, ne-eqb}
+use Rattle.words.specs.Rows.{firstOf}
+use Rattle.words.proofs.Lists.{listed-length}
+use Rattle.words.proofs.Rows.{row-past}
+use Rattle.words.specs.Words.{below}
+use Rattle.words.specs.Bytes.{digit}
+use Rattle.image.specs.declared.Outcome.the-variants.{Refused, Accepted}
+use Rattle.image.specs.declared.Directory.{Directory}
+use Rattle.image.specs.Directory.{directoryRows}
+use Rattle.image.specs.Block.{weighted, checkOf}
+use Rattle.image.specs.Write.{byteOf, bodyOf, imageOf, writeRows, Written, writeOf}
+
+-- the check looks at the first 510 bytes alone
+weighted-take : (b : List ℕ) (m i : ℕ) → i ≤ m → weighted (take m b) i ≡ weighted b i
+unfolding weighted
+weighted-take b m zero h = refl
+weighted-take b m (suc i) h = rw (weighted-take b m i (omega arith), getD-take m b i 0)
+
+pub check-take : (b : List ℕ) → checkOf (take 510 b) ≡ checkOf b
+unfolding checkOf
+check-take b = rw (weighted-take b 510 510 (omega arith))
+
+-- a list with its last two elements put in
+last-two : (out : List ℕ) (n x y : ℕ) → length out ≡ suc (suc n) → set (set out n x) (suc n) y ≡ take n out ++ x ∷ y ∷ []
+last-two [] n x y e = absurd (omega arith)
+last-two (a ∷ []) n x y e = absurd (omega arith)
+last-two (a ∷ b ∷ []) zero x y e = refl
+last-two (a ∷ b ∷ c ∷ l) zero x y e = absurd (omega arith)
+last-two (a ∷ b ∷ l) (suc n) x y e = ap (λ (t : List ℕ). a ∷ t) (last-two (b ∷ l) n x y (omega arith))
+
+two : (f : ℕ → ℕ) → map f (below 2) ≡ f 0 ∷ f 1 ∷ []
+unfolding below
+two f = refl
+
+pub image-made : (d : Directory) (out : List ℕ) (i : ℕ) {check x y : ℕ} → i ≡ 510 → length out ≡ 512 → take i out ≡ map (byteOf d) (below i) → check ≡ checkOf out → x ≡ digit check 0 → y ≡ digit check 1 → set (set out 510 x) 511 y ≡ imageOf d
+unfolding imageOf bodyOf
+image-made d out i {check} {x} {y} z s e k f g =
+    let body : take 510 out ≡ bodyOf d = rw z at e in
+    let same : check ≡ checkOf (bodyOf d) = k ∙ sym (check-take out) ∙ ap checkOf body in
+    last-two out 510 x y s ∙ ap₂ (λ (l m : List ℕ). l ++ m) body (rw (f, g, same) (sym (two (digit (checkOf (bodyOf d))))))
+
+pub body-length : (d : Directory) → length (bodyOf d) ≡ 510
+unfolding bodyOf
+body-length d = listed-length (byteOf d) 510
+
+pub image-length : (d : Directory) → length (imageOf d) ≡ 512
+unfolding imageOf
+image-length d =
+    length-append (bodyOf d) _ ∙ ap₂ (λ (m n : ℕ). m + n) (body-length d) (listed-length (digit (checkOf (bodyOf d))) 2)
+
+-- all of one list copied over another that is as long
+pub copied : (image buffer : List ℕ) {after : List ℕ} → after ≡ take (length image) image ++ drop (length image) buffer → length image ≡ 512 → length buffer ≡ 512 → after ≡ image
+copied image buffer {after} e s t =
+    e
+    ∙ ap₂ (λ (l m : List ℕ). l ++ m) (take-length image) (drop-of-length-le buffer {i = length image} (omega arith))
+    ∙ append-nil image
+
+-- ---- What writing gives in the three cases.
+module _ (d : Directory) (buffer : List ℕ) where
+  pub write-length : (length buffer ≡ 512 → ⊥) → record { outcome = Refused 1; buffer = buffer } ≡ writeOf d buffer
+  unfolding writeOf writeRows firstOf
+  write-length h = rw (ne-eqb (length buffer) 512 h)
+
+  rows-of : length buffer ≡ 512 → firstOf (writeRows d buffer) ≡ firstOf (directoryRows d)
+  unfolding writeRows
+  rows-of l = row-past 1 (eqb (length buffer) 512) (directoryRows d) (eq-eqb _ _ l)
+
+  pub write-fault : {n : ℕ} → length buffer ≡ 512 → n ≡ firstOf (directoryRows d) → (n ≡ 0 → ⊥) → record { outcome = Refused n; buffer = buffer } ≡ writeOf d buffer
+  unfolding writeOf
+  write-fault {n} l e h = rw (rows-of l, ← e, ne-eqb n 0 h)
+
+  pub write-accepted : {n : ℕ} {image : List ℕ} → length buffer ≡ 512 → n ≡ firstOf (directoryRows d) → n ≡ 0 → image ≡ imageOf d → record { outcome = Accepted 1; buffer = image } ≡ writeOf d buffer
+  unfolding writeOf
+  write-accepted {n} {image} l e z i = rw (rows-of l, ← e, eq-eqb n 0 z, i)

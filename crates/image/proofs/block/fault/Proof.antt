@@ -1,0 +1,49 @@
+-- `block::fault` meets its contract: each return by the tests that led there.
+use mathlib.Core.Path.{sym, _∙_}
+use borrow.Author.Needs.{needs}
+use borrow.Author.Tests.{eq-eqb, ne-eqb}
+use Rattle.words.specs.Rows.{firstOf}
+use Rattle.image.specs.Load.{blockRows}
+use Rattle.image.proofs.block.fault.Statement.{statement}
+use Rattle.image.proofs.block.fault.Tie as tie
+use Rattle.image.proofs.block.fault.Reads as reads
+use Rattle.image.proofs.block.fault.Lts as lts
+use Rattle.image.proofs.block.check.Reads as check-reads
+use Rattle.words.proofs.number.Reads as number-reads
+
+returns : tie.Need-returns
+unfolding firstOf blockRows
+returns c = rw (ne-eqb _ _ (c .if1 .taken))
+
+number-requires : tie.Need-number-requires
+number-requires c κs = search needs
+
+check-requires : tie.Need-check-requires
+check-requires c κs = search needs
+
+returns-2 : tie.Need-returns-2
+unfolding firstOf blockRows
+returns-2 c = rw (eq-eqb _ _ (c .before .before .before .if1 .left), ← c .before .before .number .ensures, ← c .before .check .ensures, ne-eqb _ _ (c .if2 .taken))
+
+shared-slice-read-if3 : tie.Need-shared-slice-read-if3
+shared-slice-read-if3 c = search needs
+
+returns-3 : tie.Need-returns-3
+unfolding firstOf blockRows
+returns-3 c = rw (eq-eqb _ _ (c .before .before .before .before .before .if1 .left), eq-eqb _ _ (sym (c .before .before .before .before .number .ensures) ∙ c .before .before .if2 .left ∙ c .before .before .before .check .ensures), ne-eqb _ _ (c .if3 .taken))
+
+returns-4 : tie.Need-returns-4
+unfolding firstOf blockRows
+returns-4 c = rw (eq-eqb _ _ (c .before .before .before .before .before .if1 .left), eq-eqb _ _ (sym (c .before .before .before .before .number .ensures) ∙ c .before .before .if2 .left ∙ c .before .before .before .check .ensures), eq-eqb _ _ (c .if3 .left))
+
+pub fault-spec : {M : Type 1} → statement M
+fault-spec =
+    tie.close
+    (tie.spec
+    returns
+    number-requires
+    check-requires
+    returns-2
+    shared-slice-read-if3
+    returns-3
+    returns-4)

@@ -1,0 +1,24 @@
+-- `block::weight` meets its contract: 510 times 255 is 130,050.
+use native.Mathlib.Omega.{arith}
+use borrow.Author.Needs.{needs}
+use Prim.Native.Nat.{_+_}
+use Rattle.image.proofs.Weights.{weight-low}
+use Rattle.image.proofs.block.weight.Statement.{statement}
+use Rattle.image.proofs.block.weight.Tie as tie
+use Rattle.image.proofs.block.weight.Reads as reads
+use Rattle.image.proofs.block.weight.Lts as lts
+
+cast-result : tie.Need-cast-result
+cast-result c = search needs
+
+add-result : tie.Need-add-result
+add-result c = search needs
+
+mul-result : tie.Need-mul-result
+mul-result c = omega (arith, weight-low (c .args .i) (c .args .byte) (search needs) (search needs))
+
+returns : tie.Need-returns
+returns c = (search needs, weight-low (c .args .i) (c .args .byte) (search needs) (search needs))
+
+pub weight-spec : {M : Type 1} → statement M
+weight-spec = tie.close (tie.spec cast-result add-result mul-result returns)

@@ -1,0 +1,87 @@
+-- `writing::image` meets its contract: the loop fills the bytes below the check from the front, `fill-next`, and the check is of them alone.
+use mathlib.Core.Path.{_≡_, refl, sym, ap, _∙_}
+use mathlib.Core.List.{[], _∷_, map}
+use Prim.Native.Nat.{ℕ, _+_, _-_, _≤_}
+use lib.ListN.{length, take, length-set}
+use native.Mathlib.Omega.{arith}
+use borrow.Author.Needs.{needs}
+use Rattle.words.specs.Words.{below}
+use Rattle.words.proofs.Lists.{fill-start, fill-next}
+use Rattle.image.specs.Write.{byteOf, imageOf}
+use Rattle.image.proofs.Writes.{image-made}
+use Rattle.image.proofs.writing.image.Statement.{statement}
+use Rattle.image.proofs.writing.image.Tie as tie
+use Rattle.image.proofs.writing.image.Reads as reads
+use Rattle.image.proofs.writing.image.Lts as lts
+use Rattle.image.proofs.block.check.Reads as check-reads
+use Rattle.image.proofs.writing.byte.Reads as byte-reads
+use Rattle.words.proofs.digit.Reads as digit-reads
+
+abbrev Inv-loop : tie.InvT-loop
+Inv-loop d out₀ i₀ out i = (i ≤ 510) × (length out ≡ 512) × (take i out ≡ map (byteOf d) (below i))
+
+abbrev μ-loop : tie.MeasureT-loop
+μ-loop d out₀ i₀ out i = 510 - i
+
+loop-holds : tie.Need-loop-holds Inv-loop μ-loop
+loop-holds c = (search needs, refl, fill-start _ (0 ∷ []))
+
+byte-requires : tie.Need-byte-requires Inv-loop μ-loop
+byte-requires c κs = search needs
+
+array-write-out : tie.Need-array-write-out Inv-loop μ-loop
+array-write-out c = search needs
+
+add-i : tie.Need-add-i Inv-loop μ-loop
+add-i c = search needs
+
+loop-less : tie.Need-loop-less Inv-loop μ-loop
+loop-less c = search needs
+
+loop-again : tie.Need-loop-again Inv-loop μ-loop
+loop-again c = (
+  search needs,
+  simp length-set (c .before .before .loop .inv .1),
+  fill-next (byteOf (c .before .before .before .args .d)) (c .before .before .loop .out) (c .before .before .loop .i) (c .byte .result) (omega (arith, c .before .before .loop .inv .1)) (c .before .before .loop .inv .2) (c .byte .ensures),
+)
+
+slice-aggregate-check : tie.Need-slice-aggregate-check Inv-loop μ-loop
+slice-aggregate-check c = search needs
+
+check-requires : tie.Need-check-requires Inv-loop μ-loop
+check-requires c κs = search needs
+
+digit-requires : tie.Need-digit-requires Inv-loop μ-loop
+digit-requires c κs = search needs
+
+array-write-out-2 : tie.Need-array-write-out-2 Inv-loop μ-loop
+array-write-out-2 c = search needs
+
+digit-requires-2 : tie.Need-digit-requires-2 Inv-loop μ-loop
+digit-requires-2 c κs = search needs
+
+array-write-out-3 : tie.Need-array-write-out-3 Inv-loop μ-loop
+array-write-out-3 c = search needs
+
+returns : tie.Need-returns Inv-loop μ-loop
+returns c = image-made (c .before .before .before .before .before .before .args .d) (c .before .before .before .before .before .loop .out) (c .before .before .before .before .before .loop .i) (search needs) (c .before .before .before .before .before .loop .inv .1) (c .before .before .before .before .before .loop .inv .2) (c .before .before .check .ensures) (c .before .digit .ensures) (c .digit2 .ensures)
+
+pub image-spec : {M : Type 1} → statement M
+image-spec =
+    tie.close
+    (tie.spec
+    Inv-loop
+    μ-loop
+    loop-holds
+    byte-requires
+    array-write-out
+    add-i
+    loop-less
+    loop-again
+    slice-aggregate-check
+    check-requires
+    digit-requires
+    array-write-out-2
+    digit-requires-2
+    array-write-out-3
+    returns)
