@@ -1,3 +1,9 @@
 pub mod Weights
 pub mod Loads
 pub mod Writes
+pub mod Table
+pub mod Clear
+pub mod WrittenBack
+pub mod LoadedBack
+pub mod RoundTrips
+pub mod Unique

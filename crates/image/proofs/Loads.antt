@@ -1,16 +1,16 @@
 -- What the list of load refusals says: which tests hold of an image that none refuses, and which row decides where one fails.
-use mathlib.Core.Bool.{Bool, true, false, not}
-use mathlib.Core.Path.{_≡_, refl, sym, ap, _∙_}
+use mathlib.Core.Bool.{true, false, not}
+use mathlib.Core.Path.{_≡_, sym, ap, _∙_}
 use mathlib.Core.Logic.{⊎-elim}
 use mathlib.Core.List.{List, [], _∷_, _++_}
-use Prim.Native.Nat.{ℕ, _≤_}
+use Prim.Native.Nat.{ℕ}
 use native.Mathlib.Nat.{eq-zero-or-pos}
 use native.Mathlib.Omega.{arith}
 use borrow.Author.Tests.{eqb-true, eq-eqb, ne-eqb}
 use lib.ListN.{length, getD}
 use lib.Dec.{eqb}
 use Rattle.words.specs.Rows.{Row, _when_, firstOf}
-use Rattle.words.proofs.Rows.{Numbered, none, one, row-past, row-here, row-passed, first-stays, first-past, first-none}
+use Rattle.words.proofs.Rows.{Numbered, none, numbered, row-past, row-here, row-passed, first-stays, first-past, first-none}
 use Rattle.image.specs.declared.Outcome.the-variants.{Accepted}
 use Rattle.image.specs.declared.Directory.{Directory}
 use Rattle.image.specs.declared.Loaded.{Loaded}
@@ -28,11 +28,11 @@ laterRows b = directoryRows (directoryOf b) ++ lastRow b
 
 block-numbered : (b : List ℕ) → Numbered (blockRows b)
 unfolding blockRows
-block-numbered b = one 1 _ (omega arith) (one 2 _ (omega arith) (one 3 _ (omega arith) none))
+block-numbered b = numbered (omega arith) (numbered (omega arith) (numbered (omega arith) none))
 
 directory-numbered : (d : Directory) → Numbered (directoryRows d)
 unfolding directoryRows
-directory-numbered d = one 4 _ (omega arith) (one 5 _ (omega arith) (one 6 _ (omega arith) (one 7 _ (omega arith) none)))
+directory-numbered d = numbered (omega arith) (numbered (omega arith) (numbered (omega arith) (numbered (omega arith) none)))
 
 pub block-long : (b : List ℕ) → firstOf (blockRows b) ≡ 0 → length b ≡ 512
 unfolding blockRows
@@ -87,6 +87,13 @@ good b e =
       sound = d;
       clears = seven .0;
     }
+
+block-passes : (b : List ℕ) → Good b → firstOf (blockRows b) ≡ 0
+unfolding blockRows firstOf
+block-passes b g = rw (eq-eqb (length b) 512 (g .long), eq-eqb (storedCheck b) (checkOf b) (g .checked), eq-eqb (getD b 0 0) 1 (g .formed))
+
+pub good-passes : (b : List ℕ) → Good b → firstOf (loadRows b) ≡ 0
+good-passes b g = sym (refuses-none b (block-passes b g) (g .sound) (g .clears))
 
 -- What loading gives in the two cases.
 pub load-refused : (b : List ℕ) → (firstOf (loadRows b) ≡ 0 → ⊥) → loadOf b ≡ refusedLoad (firstOf (loadRows b))

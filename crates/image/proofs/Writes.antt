@@ -1,19 +1,22 @@
 -- The image of a directory as its bytes come together: those below the check from the front, then the two of the check, which looks at no others.
 use mathlib.Core.Path.{_≡_, refl, sym, ap, ap₂, _∙_}
+use mathlib.Core.Logic.{⊎-elim}
 use mathlib.Core.List.{List, [], _∷_, _++_, map, append-nil}
-use Prim.Native.Nat.{ℕ, zero, suc, _+_, _*_, _≤_, _<_}
+use Prim.Native.Nat.{ℕ, zero, suc, _+_, _≤_}
+use native.Mathlib.Nat.{eq-zero-or-pos}
 use native.Mathlib.Omega.{arith}
-use lib.ListN.{length, getD, take, drop, set, length-append, drop-of-length-le}
+use lib.ListN.{length, take, drop, set, length-append, drop-of-length-le}
 use lib.Seq.{getD-take, take-length}
 use lib.Dec.{eqb}
-use borrow.Author.Tests.{eq-eqb, ne-eqb}
+use borrow.Author.Tests.{eqb-true, eq-eqb, ne-eqb}
 use Rattle.words.specs.Rows.{firstOf}
 use Rattle.words.proofs.Lists.{listed-length}
-use Rattle.words.proofs.Rows.{row-past}
+use Rattle.words.proofs.Rows.{row-past, row-passed}
 use Rattle.words.specs.Words.{below}
 use Rattle.words.specs.Bytes.{digit}
 use Rattle.image.specs.declared.Outcome.the-variants.{Refused, Accepted}
 use Rattle.image.specs.declared.Directory.{Directory}
+use Rattle.image.specs.Answer.{refusalOf}
 use Rattle.image.specs.Directory.{directoryRows}
 use Rattle.image.specs.Block.{weighted, checkOf}
 use Rattle.image.specs.Write.{byteOf, bodyOf, imageOf, writeRows, Written, writeOf}
@@ -80,3 +83,16 @@ module _ (d : Directory) (buffer : List ℕ) where
   pub write-accepted : {n : ℕ} {image : List ℕ} → length buffer ≡ 512 → n ≡ firstOf (directoryRows d) → n ≡ 0 → image ≡ imageOf d → record { outcome = Accepted 1; buffer = image } ≡ writeOf d buffer
   unfolding writeOf
   write-accepted {n} {image} l e z i = rw (rows-of l, ← e, eq-eqb n 0 z, i)
+
+  -- Where writing accepts, the directory has no fault and its image is in the buffer.
+  none-applies : refusalOf (writeOf d buffer .outcome) ≡ 0 → firstOf (writeRows d buffer) ≡ 0
+  unfolding writeOf
+  none-applies e =
+      ⊎-elim (λ z. z) (λ some. rw (ne-eqb (firstOf (writeRows d buffer)) 0 (λ z. omega arith)) at e)
+      (eq-zero-or-pos (firstOf (writeRows d buffer)))
+
+  pub write-good : refusalOf (writeOf d buffer .outcome) ≡ 0 → (firstOf (directoryRows d) ≡ 0) × (writeOf d buffer .buffer ≡ imageOf d)
+  unfolding writeRows
+  write-good e =
+      let one = row-passed 1 (eqb (length buffer) 512) (directoryRows d) (omega arith) (none-applies e) in
+      (one .1, sym (ap (λ (w : Written). w .buffer) (write-accepted (eqb-true _ _ (one .0)) refl (one .1) refl)))

@@ -1,5 +1,5 @@
 -- Document 01, 'Phase image': loading.
-use mathlib.Core.Bool.{Bool, not}
+use mathlib.Core.Bool.{not}
 use mathlib.Core.List.{List, [], _∷_, _++_, map}
 use Prim.Native.Nat.{ℕ, _+_, _*_}
 use lib.ListN.{length, getD}
@@ -7,7 +7,6 @@ use lib.Dec.{eqb}
 use Rattle.words.specs.Words.{if_then_else_, below}
 use Rattle.words.specs.Bytes.{number}
 use Rattle.words.specs.Rows.{Row, _when_, firstOf}
-use Rattle.image.specs.declared.Outcome.{Outcome}
 use Rattle.image.specs.declared.Outcome.the-variants.{Refused, Accepted}
 use Rattle.image.specs.declared.Entry.{Entry}
 use Rattle.image.specs.declared.Directory.{Directory}

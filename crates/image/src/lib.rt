@@ -7,11 +7,10 @@ mod reading;
 mod writing;
 
 ghost use mathlib.Core.Path.{_≡_};
-ghost use lib.ListN.{length};
 ghost use Rattle.words.specs.Rows.{firstOf};
 ghost use Rattle.image.specs.Answer.{refusalOf};
 ghost use Rattle.image.specs.Load.{loadRows, refusedLoad, loadOf};
-ghost use Rattle.image.specs.Write.{Written, writeOf};
+ghost use Rattle.image.specs.Write.{writeOf};
 
 // An answer: refused by a number of document 01, or accepted with a result.
 pub enum Outcome {

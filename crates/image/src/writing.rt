@@ -2,8 +2,7 @@
 use crate::Directory;
 use crate::Entry;
 ghost use mathlib.Core.Path.{_≡_};
-ghost use Prim.Native.Nat.{_≤_, _<_};
-ghost use lib.ListN.{length};
+ghost use Prim.Native.Nat.{_<_};
 ghost use Rattle.image.specs.Write.{entryByte, byteOf, imageOf};
 
 // Byte j of an entry.

@@ -3,7 +3,7 @@
 // It answers for 'numbers little-endian' of document 01, and knows nothing of images, calls or tables.
 ghost use mathlib.Core.Path.{_≡_};
 ghost use Prim.Native.Nat.{_+_, _*_, _≤_, _<_};
-ghost use lib.ListN.{length, getD};
+ghost use lib.ListN.{length};
 ghost use Rattle.words.specs.Bytes.{number, digit};
 
 fn wide(byte: u8) -> u64

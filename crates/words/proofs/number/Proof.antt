@@ -1,15 +1,11 @@
 -- `words::number` meets its contract. The bytes are taken from the high end down: so far, the value is what those from `left` on spell.
-use mathlib.Core.Path.{_≡_, sym, ap}
-use Prim.Native.Nat.{ℕ, _+_, _-_, _≤_}
+use Prim.Native.Nat.{_+_, _-_}
 use native.Mathlib.Omega.{arith}
 use borrow.Author.Needs.{needs}
 use Rattle.words.specs.Bytes.{number}
 use Rattle.words.proofs.Numbers.{Spelt, spelt-start, spelt-room, spelt-next, spelt-end}
 use Rattle.words.proofs.number.Statement.{statement}
 use Rattle.words.proofs.number.Tie as tie
-use Rattle.words.proofs.number.Reads as reads
-use Rattle.words.proofs.number.Lts as lts
-use Rattle.words.proofs.wide.Reads as wide-reads
 
 abbrev Inv-loop : tie.InvT-loop
 Inv-loop bytes at width left₀ value₀ left value = Spelt bytes at width left value

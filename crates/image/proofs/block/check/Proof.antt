@@ -3,13 +3,10 @@ use mathlib.Core.Path.{_≡_}
 use Prim.Native.Nat.{_-_}
 use native.Mathlib.Omega.{arith}
 use borrow.Author.Needs.{needs}
-use Rattle.image.specs.Block.{weighted, checkOf}
+use Rattle.image.specs.Block.{checkOf}
 use Rattle.image.proofs.Weights.{Summed, summed-start, summed-next}
 use Rattle.image.proofs.block.check.Statement.{statement}
 use Rattle.image.proofs.block.check.Tie as tie
-use Rattle.image.proofs.block.check.Reads as reads
-use Rattle.image.proofs.block.check.Lts as lts
-use Rattle.image.proofs.block.weight.Reads as weight-reads
 
 abbrev Inv-loop : tie.InvT-loop
 Inv-loop bytes sum₀ i₀ sum i = Summed bytes i sum

@@ -6,10 +6,6 @@ use Rattle.words.specs.Rows.{firstOf}
 use Rattle.image.specs.Load.{blockRows}
 use Rattle.image.proofs.block.fault.Statement.{statement}
 use Rattle.image.proofs.block.fault.Tie as tie
-use Rattle.image.proofs.block.fault.Reads as reads
-use Rattle.image.proofs.block.fault.Lts as lts
-use Rattle.image.proofs.block.check.Reads as check-reads
-use Rattle.words.proofs.number.Reads as number-reads
 
 returns : tie.Need-returns
 unfolding firstOf blockRows

@@ -1,12 +1,9 @@
 -- `block::weight` meets its contract: 510 times 255 is 130,050.
 use native.Mathlib.Omega.{arith}
 use borrow.Author.Needs.{needs}
-use Prim.Native.Nat.{_+_}
 use Rattle.image.proofs.Weights.{weight-low}
 use Rattle.image.proofs.block.weight.Statement.{statement}
 use Rattle.image.proofs.block.weight.Tie as tie
-use Rattle.image.proofs.block.weight.Reads as reads
-use Rattle.image.proofs.block.weight.Lts as lts
 
 cast-result : tie.Need-cast-result
 cast-result c = search needs

@@ -1,6 +1,6 @@
 -- `block::zeros` meets its contract: the loop gathers the test, `gather-next`.
 use mathlib.Core.Path.{_≡_, refl}
-use Prim.Native.Nat.{ℕ, _+_, _-_, _*_, _≤_}
+use Prim.Native.Nat.{_+_, _-_, _*_, _≤_}
 use native.Mathlib.Omega.{arith}
 use borrow.Author.Needs.{needs}
 use Rattle.words.specs.Words.{below, allOf}
@@ -9,8 +9,6 @@ use Rattle.image.specs.Block.{zeroAt}
 use Rattle.image.proofs.Weights.{stride}
 use Rattle.image.proofs.block.zeros.Statement.{statement}
 use Rattle.image.proofs.block.zeros.Tie as tie
-use Rattle.image.proofs.block.zeros.Reads as reads
-use Rattle.image.proofs.block.zeros.Lts as lts
 
 abbrev Inv-loop : tie.InvT-loop
 Inv-loop bytes from step count all₀ i₀ all i = (i ≤ count) × (all ≡ allOf (λ j. zeroAt bytes (from + step * j)) (below i))

@@ -1,21 +1,16 @@
 -- `writing::image` meets its contract: the loop fills the bytes below the check from the front, `fill-next`, and the check is of them alone.
-use mathlib.Core.Path.{_≡_, refl, sym, ap, _∙_}
+use mathlib.Core.Path.{_≡_, refl}
 use mathlib.Core.List.{[], _∷_, map}
-use Prim.Native.Nat.{ℕ, _+_, _-_, _≤_}
+use Prim.Native.Nat.{_-_, _≤_}
 use lib.ListN.{length, take, length-set}
 use native.Mathlib.Omega.{arith}
 use borrow.Author.Needs.{needs}
 use Rattle.words.specs.Words.{below}
 use Rattle.words.proofs.Lists.{fill-start, fill-next}
-use Rattle.image.specs.Write.{byteOf, imageOf}
+use Rattle.image.specs.Write.{byteOf}
 use Rattle.image.proofs.Writes.{image-made}
 use Rattle.image.proofs.writing.image.Statement.{statement}
 use Rattle.image.proofs.writing.image.Tie as tie
-use Rattle.image.proofs.writing.image.Reads as reads
-use Rattle.image.proofs.writing.image.Lts as lts
-use Rattle.image.proofs.block.check.Reads as check-reads
-use Rattle.image.proofs.writing.byte.Reads as byte-reads
-use Rattle.words.proofs.digit.Reads as digit-reads
 
 abbrev Inv-loop : tie.InvT-loop
 Inv-loop d out₀ i₀ out i = (i ≤ 510) × (length out ≡ 512) × (take i out ≡ map (byteOf d) (below i))

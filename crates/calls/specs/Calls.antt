@@ -1,0 +1,50 @@
+-- Document 01, 'Calls': the bytes of a call, the codes, the answer.
+use mathlib.Core.Bool.{Bool, _||_}
+use mathlib.Core.List.{List, [], _∷_}
+use Prim.Native.Nat.{ℕ}
+use lib.ListN.{length, getD}
+use lib.Dec.{eqb}
+use Rattle.words.specs.Words.{if_then_else_, _among_}
+use Rattle.words.specs.Bytes.{number}
+use Rattle.image.specs.declared.Outcome.{Outcome}
+use Rattle.image.specs.Answer.{refusalOf, resultOf}
+use Rattle.calls.specs.declared.Call.{Call}
+use Rattle.calls.specs.declared.Arrival.{Arrival}
+use Rattle.calls.specs.declared.Arrival.the-variants.{Came, Cut}
+
+-- "code, kind, number, value, a 4-byte amount, an 8-byte event set, little-endian"
+unfoldable pub callOf : List ℕ → Call
+callOf b =
+    record {
+      code = getD b 0 0;
+      kind = getD b 1 0;
+      number = getD b 2 0;
+      value = getD b 3 0;
+      amount = number b 4 4;
+      events = number b 8 8;
+    }
+
+-- "A call arrives as exactly 16 bytes"; "10 | not 16 bytes"
+unfoldable pub arrival : List ℕ → Arrival
+arrival b = if eqb (length b) 16 then Came (callOf b) else Cut 10
+
+-- "Service calls need a running task: 1 FREEMAIN, 5 LINK, 6 END, 7 SCHEDULE, 8 WAIT, 9 SIGNAL, 10 TEST EVENT, 12 DISPATCH CHECK, 13 READ,
+-- 14 WRITE, 15 CHECK."
+abbrev pub services : List ℕ
+services = 1 ∷ 5 ∷ 6 ∷ 7 ∷ 8 ∷ 9 ∷ 10 ∷ 12 ∷ 13 ∷ 14 ∷ 15 ∷ []
+
+-- "Interrupts: 32 timer, 33 I/O done, 34 program check (needs a running task), 35 operator start."
+abbrev pub interrupts : List ℕ
+interrupts = 32 ∷ 33 ∷ 34 ∷ 35 ∷ []
+
+-- "A fixed table over the codes 0 to 35 says whether a code is known and whether it needs a running task."
+unfoldable pub known : ℕ → Bool
+known code = code among services || code among interrupts
+
+unfoldable pub needsTask : ℕ → Bool
+needsTask code = code among services || eqb code 34
+
+-- "An answer has three numbers: refusal (0 if accepted), result, running task afterwards (0 if idle)." A refused call "names the running task unchanged
+-- (0 with refusal 9)".
+unfoldable pub numbers : Outcome → ℕ → List ℕ
+numbers o running = refusalOf o ∷ resultOf o ∷ (if eqb (refusalOf o) 9 then 0 else running) ∷ []

@@ -1,0 +1,87 @@
+-- The image of a directory without a fault is good, and spells that directory: its bytes follow the table, and the fields are read from the rows.
+use mathlib.Core.Bool.{true}
+use mathlib.Core.Path.{_≡_, sym, ap, _∙_}
+use mathlib.Core.List.{List, map}
+use Prim.Native.Nat.{ℕ, _+_, _*_, _^_, _<_}
+use native.Mathlib.Omega.{arith}
+use lib.ListN.{length, getD, List·getD-append}
+use lib.Seq.{take-at, getD-append-add}
+use Rattle.words.specs.Words.{below}
+use Rattle.words.specs.Bytes.{digit}
+use Rattle.words.specs.Rows.{firstOf}
+use Rattle.words.proofs.Lists.{listed-at, listed-of}
+use Rattle.words.proofs.Numbers.{number-digits}
+use Rattle.image.specs.declared.Entry.{Entry}
+use Rattle.image.specs.declared.Directory.{Directory}
+use Rattle.image.specs.Block.{storedCheck, checkOf, clear}
+use Rattle.image.specs.Directory.{noEntry, entryAt, directoryRows}
+use Rattle.image.specs.Load.{entryOf, directoryOf}
+use Rattle.image.specs.Write.{byteOf, bodyOf, imageOf}
+use Rattle.image.proofs.Clear.{clear-shown}
+use Rattle.image.proofs.Loads.{Good}
+use Rattle.image.proofs.Table.{EntryTable, Table, table-of}
+use Rattle.image.proofs.Writes.{check-take, body-length, image-length}
+
+-- ---- What bytes that follow the table spell.
+
+module _ (b : List ℕ) where
+  entry-spelt : (m : ℕ) (e : Entry) → EntryTable (λ j. getD b (16 + 8 * m + j) 0) e → e .point < 2 ^ 32 → entryOf b m ≡ e
+  unfolding entryOf
+  entry-spelt m e t fits =
+      let first : 16 + 8 * m ≡ 16 + 8 * m + 0 = omega arith in
+      let fourth : (j : ℕ) → 16 + 8 * m + 4 + j ≡ 16 + 8 * m + (4 + j) = λ j. omega arith in
+      let level : getD b (16 + 8 * m) 0 ≡ e .level = rw first (t .level) in
+      let point = number-digits b (e .point) 4 (16 + 8 * m + 4) (λ j l. rw (fourth j) (t .point j l)) fits in
+      rw (level, t .units, t .flags, point)
+
+  module _ (d : Directory) (t : Table (λ i. getD b i 0) d) where
+    pub directory-spelt : length (d .entries) ≡ 32 → d .defined < 2 ^ 64 → ((m : ℕ) → entryAt d m .point < 2 ^ 32) → directoryOf b ≡ d
+    unfolding directoryOf
+    directory-spelt count defined points =
+        let events = number-digits b (d .defined) 8 8 (t .defined) defined in
+        let entries = listed-of (entryOf b) (d .entries) 32 noEntry count (λ m l. entry-spelt m (entryAt d m) (t .entries m l) (points m)) in
+        rw (t .modules, t .every, events, entries)
+
+    table-clear : clear b ≡ true
+    table-clear = clear-shown b (record { spare = t .spare; entry = λ m l. t .entries m l .spare; rest = t .rest })
+
+-- ---- The image of a directory.
+
+module _ (d : Directory) where
+  abbrev check : ℕ
+  check = checkOf (bodyOf d)
+
+  abbrev ending : List ℕ
+  ending = map (digit check) (below 2)
+
+  image-byte : (i : ℕ) → i < 510 → getD (imageOf d) i 0 ≡ byteOf d i
+  unfolding imageOf bodyOf
+  image-byte i l = List·getD-append (bodyOf d) ending 0 i (omega (arith, body-length d)) ∙ listed-at (byteOf d) 510 i 0 l
+
+  pub image-table : Table (λ i. getD (imageOf d) i 0) d
+  image-table = table-of d (λ i. getD (imageOf d) i 0) image-byte
+
+  image-check : checkOf (imageOf d) ≡ check
+  unfolding imageOf
+  image-check = sym (check-take (imageOf d)) ∙ ap checkOf (take-at (bodyOf d) ending 510 (body-length d))
+
+  check-small : check < 2 ^ 16
+  unfolding checkOf
+  check-small = omega arith
+
+  check-byte : (j : ℕ) → j < 2 → getD (imageOf d) (510 + j) 0 ≡ digit check j
+  unfolding imageOf
+  check-byte j l = rw (body-length d) at (getD-append-add (bodyOf d) ending j 0) ∙ listed-at (digit check) 2 j 0 l
+
+  image-checked : storedCheck (imageOf d) ≡ checkOf (imageOf d)
+  image-checked = number-digits (imageOf d) check 2 510 check-byte check-small ∙ sym image-check
+
+  pub image-good : directoryOf (imageOf d) ≡ d → firstOf (directoryRows d) ≡ 0 → Good (imageOf d)
+  image-good same sound =
+      record {
+        long = image-length d;
+        checked = image-checked;
+        formed = image-table .form;
+        sound = ap (λ (x : Directory). firstOf (directoryRows x)) same ∙ sound;
+        clears = table-clear (imageOf d) d image-table;
+      }

@@ -1,0 +1,75 @@
+-- An image that loading accepts is the image of the directory that it spells: below the check because both follow the table of bytes, then the
+-- check itself.
+use mathlib.Core.Path.{_≡_, refl, sym, ap, ap₂, _∙_}
+use mathlib.Core.List.{List, _++_, map}
+use Prim.Native.Nat.{ℕ, _+_, _*_, _<_}
+use native.Mathlib.Omega.{arith}
+use lib.ListN.{getD, take, drop, length-drop, take-append-drop}
+use lib.Seq.{length-take-le, getD-take, getD-drop}
+use Rattle.words.specs.Words.{below}
+use Rattle.words.specs.Bytes.{digit}
+use Rattle.words.proofs.Lists.{listed-at, listed-of}
+use Rattle.words.proofs.Numbers.{digit-number}
+use Rattle.image.specs.Block.{checkOf}
+use Rattle.image.specs.Directory.{noEntry, entryAt}
+use Rattle.image.specs.Load.{entryOf, directoryOf}
+use Rattle.image.specs.Write.{byteOf, bodyOf, imageOf}
+use Rattle.image.proofs.Clear.{clear-means}
+use Rattle.image.proofs.Loads.{Good}
+use Rattle.image.proofs.Table.{EntryTable, Table, table-of, table-only}
+use Rattle.image.proofs.Writes.{check-take}
+
+entry-at : (b : List ℕ) (m : ℕ) → m < 32 → entryAt (directoryOf b) m ≡ entryOf b m
+unfolding directoryOf
+entry-at b m l = listed-at (entryOf b) 32 m noEntry l
+
+module _ (b : List ℕ) (bytes : (k : ℕ) → getD b k 0 < 256) where
+  -- the same byte, by two names of its place
+  place : (i j : ℕ) → i ≡ j → getD b i 0 ≡ getD b j 0
+  place i j e = ap (λ (k : ℕ). getD b k 0) e
+
+  entry-read : (m : ℕ) → getD b (16 + 8 * m + 3) 0 ≡ 0 → EntryTable (λ j. getD b (16 + 8 * m + j) 0) (entryOf b m)
+  unfolding entryOf
+  entry-read m spare =
+      record {
+        level = place (16 + 8 * m + 0) (16 + 8 * m) (omega arith);
+        units = refl;
+        flags = refl;
+        spare = spare;
+        point = λ j l. place (16 + 8 * m + (4 + j)) (16 + 8 * m + 4 + j) (omega arith) ∙ sym (digit-number b bytes 4 (16 + 8 * m + 4) j l);
+      }
+
+  -- the bytes of a good image follow the table for the directory that loading reads from them
+  table-read : Good b → Table (λ i. getD b i 0) (directoryOf b)
+  unfolding directoryOf
+  table-read g =
+      let zero = clear-means b (g .clears) in
+      record {
+        form = g .formed;
+        modules = refl;
+        every = refl;
+        spare = zero .spare;
+        defined = λ j l. sym (digit-number b bytes 8 8 j l);
+        entries = λ m l. rw (entry-at b m l) (entry-read m (zero .entry m l));
+        rest = zero .rest;
+      }
+
+module _ (b : List ℕ) (bytes : (k : ℕ) → getD b k 0 < 256) (g : Good b) where
+  byte-same : (i : ℕ) → i < 510 → byteOf (directoryOf b) i ≡ getD b i 0
+  byte-same i l =
+      table-only (byteOf (directoryOf b)) (λ k. getD b k 0) (table-of (directoryOf b) (byteOf (directoryOf b)) (λ k h. refl)) (table-read b bytes g) .at i (omega arith) l
+
+  body-same : bodyOf (directoryOf b) ≡ take 510 b
+  unfolding bodyOf
+  body-same =
+      listed-of (byteOf (directoryOf b)) (take 510 b) 510 0 (length-take-le 510 b (omega (arith, g .long)))
+      (λ i l. byte-same i l ∙ sym (getD-take 510 b i 0 l))
+
+  check-same : map (digit (checkOf b)) (below 2) ≡ drop 510 b
+  check-same =
+      listed-of (digit (checkOf b)) (drop 510 b) 2 0 (length-drop 510 b ∙ omega (arith, g .long))
+      (λ j l. ap (λ (x : ℕ). digit x j) (sym (g .checked)) ∙ digit-number b bytes 2 510 j l ∙ sym (getD-drop 510 b j 0))
+
+  pub image-same : imageOf (directoryOf b) ≡ b
+  unfolding imageOf
+  image-same = ap₂ (λ (l m : List ℕ). l ++ m) body-same (rw (body-same, check-take b) check-same) ∙ take-append-drop 510 b

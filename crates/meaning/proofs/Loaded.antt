@@ -1,0 +1,66 @@
+-- The table rules hold of the tables of every image that loads. No block is in use, so each rule but two computes, whatever the directory is:
+-- the directory passes because it was loaded, and a free block has no core whatever its module's units are.
+use mathlib.Core.Bool.{Bool, true, false, _||_}
+use mathlib.Core.Path.{_≡_, refl, sym, _∙_}
+use mathlib.Core.List.{List}
+use Prim.Native.Nat.{ℕ, zero}
+use lib.Dec.{eqb}
+use borrow.Author.Tests.{eq-eqb}
+use Rattle.threads.specs.Threads.{walk, queuesOf, threaded, row, tab, flat, after, before, counts, count}
+use Rattle.words.specs.Words.{_among_, below, oneTo, allOf, howMany, sameList, upBy, standing, each-holds}
+use Rattle.words.specs.Rows.{firstOf}
+use Rattle.image.specs.declared.Directory.{Directory}
+use Rattle.image.specs.Answer.{refusalOf}
+use Rattle.image.specs.Directory.{directoryRows}
+use Rattle.image.specs.Load.{directoryOf, loadOf}
+use Rattle.image.proofs.Loads.{good, load-accepted, check-is-load}
+use Rattle.tables.specs.State.{loaded, allZero, tabled, read}
+use Rattle.meaning.specs.Conditions.{undefinedIn}
+use Rattle.meaning.specs.Ready.{needsCore}
+use Rattle.meaning.specs.Rules as rules
+use Rattle.meaning.specs.Rules.{stateRules, rulesHold}
+use Rattle.meaning.specs.Refusals.{refusals}
+use Rattle.meaning.specs.Step.{refused, stepOf, tablesOf}
+
+-- Nine empty queues are sound, and read back as they are.
+empty-sound : (d : Directory) → rules.pointersSound (tabled (loaded d) .threads) ≡ true
+unfolding loaded rules.pointersSound rules.everywhere queuesOf threaded walk row tab flat after before counts count allOf oneTo sameList
+empty-sound d = refl
+
+read-loaded : (d : Directory) → read (tabled (loaded d)) ≡ loaded d
+unfolding loaded queuesOf threaded walk row tab flat after before
+read-loaded d = refl
+
+-- A free block has no core, whatever its module's units are.
+or-true : (a : Bool) → (a || true) ≡ true
+or-true true = refl
+or-true false = refl
+
+free-clear : (d : Directory) → rules.clear (loaded d) ≡ true
+unfolding loaded rules.clear allOf oneTo
+free-clear d = rw or-true
+
+-- All the others compute.
+state-rules : (d : Directory) → firstOf (directoryRows d) ≡ 0 → each-holds (stateRules (loaded d)) ≡ true
+unfolding each-holds stateRules loaded rules.directoryPasses rules.inRange rules.onDefined undefinedIn rules.tasksInPlace rules.requestsInPlace rules.queueFor rules.freeSets rules.coreHeld rules.holdsUnit rules.chainsEnd rules.upward rules.busy rules.eventsWait rules.coreWaits rules.queuesInOrder rules.ofTheirLevel rules.coreNeeded needsCore rules.eventsPass rules.linked rules.owned rules.checksPending rules.endingPending rules.channelBusy standing _among_ upBy howMany allOf oneTo below
+state-rules d e = rw (eq-eqb (firstOf (directoryRows d)) 0 e, free-clear d)
+
+pub loaded-lawful : (d : Directory) → firstOf (directoryRows d) ≡ 0 → rulesHold (tabled (loaded d)) ≡ true
+unfolding rulesHold
+loaded-lawful d e = rw (empty-sound d, read-loaded d, state-rules d e)
+
+-- "9 | .. never after an accepted load": the tables of an image that loads follow the rules.
+pub load-lawful : (image : List ℕ) → refusalOf (loadOf image .outcome) ≡ 0 → rulesHold (tablesOf image) ≡ true
+unfolding tablesOf
+load-lawful image e =
+    let none = sym (check-is-load image) ∙ e in
+    rw (eq-eqb _ _ e, load-accepted image none) (loaded-lawful (directoryOf image) (good image none .sound))
+
+-- "with all-zero tables, on which every call answers 9"
+zero-unlawful : rulesHold (tabled allZero) ≡ false
+unfolding rulesHold each-holds stateRules allZero rules.directoryPasses directoryRows firstOf rules.pointersSound rules.everywhere queuesOf threaded walk row tab flat after before counts count allOf oneTo sameList
+zero-unlawful = refl
+
+pub zero-refused : (bytes : List ℕ) → stepOf (tabled allZero) bytes ≡ refused (tabled allZero) 9
+unfolding stepOf refusals firstOf
+zero-refused bytes = rw zero-unlawful

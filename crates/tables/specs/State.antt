@@ -1,0 +1,163 @@
+-- The state of the executive: the tables with nine lists in place of the pointers. `read` takes it from the tables, `tabled` gives its tables.
+use mathlib.Core.List.{List, [], _∷_, _++_}
+use Prim.Native.Nat.{ℕ, _+_, _-_, _^_}
+use lib.ListN.{set, getD, replicate}
+use Rattle.threads.specs.Threads.{queuesOf, threaded, without}
+use Rattle.image.specs.declared.Entry.{Entry}
+use Rattle.image.specs.declared.Directory.{Directory}
+use Rattle.image.specs.Directory.{noEntry, noDirectory}
+use Rattle.tables.specs.declared.Task.{Task}
+use Rattle.tables.specs.declared.Request.{Request}
+use Rattle.tables.specs.declared.Tables.{Tables}
+use Rattle.tables.specs.Blocks.{taskBlocks, requestBlocks, noTask, noRequest}
+
+pub record State : Type 0 where
+  pub directory : Directory
+  pub clock : ℕ
+  pub on : ℕ
+  pub running : ℕ
+  pub channel : ℕ
+  pub idle : ℕ
+  pub spare : ℕ
+  pub pools : List ℕ
+  pub tasks : List Task
+  pub requests : List Request
+  pub queues : List (List ℕ)
+
+-- ---- The nine queues: the event queue, "a level's ready or core queue", the time queue, the channel queue.
+
+abbrev pub eventQueue : ℕ
+eventQueue = 0
+
+abbrev pub readyQueue : ℕ → ℕ
+readyQueue level = level
+
+abbrev pub coreQueue : ℕ → ℕ
+coreQueue level = level + 3
+
+abbrev pub timeQueue : ℕ
+timeQueue = 7
+
+abbrev pub channelQueue : ℕ
+channelQueue = 8
+
+-- the number of request block r in a queue (task block k is the number k), and the request block of such a number
+abbrev pub node : ℕ → ℕ
+node r = r + taskBlocks
+
+abbrev pub requestOf : ℕ → ℕ
+requestOf n = n - taskBlocks
+
+-- ---- A state from its parts, and with one part changed.
+
+abbrev pub state : Directory → ℕ → ℕ → ℕ → ℕ → ℕ → ℕ → List ℕ → List Task → List Request → List (List ℕ) → State
+state d c o r h i f p t q l =
+    record { directory = d; clock = c; on = o; running = r; channel = h; idle = i; spare = f; pools = p; tasks = t; requests = q; queues = l }
+
+abbrev pub withClock : State → ℕ → State
+withClock s x = state s.directory x s.on s.running s.channel s.idle s.spare s.pools s.tasks s.requests s.queues
+
+abbrev pub withOn : State → ℕ → State
+withOn s x = state s.directory s.clock x s.running s.channel s.idle s.spare s.pools s.tasks s.requests s.queues
+
+abbrev pub withRunning : State → ℕ → State
+withRunning s x = state s.directory s.clock s.on x s.channel s.idle s.spare s.pools s.tasks s.requests s.queues
+
+abbrev pub withChannel : State → ℕ → State
+withChannel s x = state s.directory s.clock s.on s.running x s.idle s.spare s.pools s.tasks s.requests s.queues
+
+abbrev pub withIdle : State → ℕ → State
+withIdle s x = state s.directory s.clock s.on s.running s.channel x s.spare s.pools s.tasks s.requests s.queues
+
+abbrev pub withSpare : State → ℕ → State
+withSpare s x = state s.directory s.clock s.on s.running s.channel s.idle x s.pools s.tasks s.requests s.queues
+
+abbrev pub withPool : State → ℕ → ℕ → State
+withPool s level x =
+    state s.directory s.clock s.on s.running s.channel s.idle s.spare (set (s .pools) level x) s.tasks s.requests s.queues
+
+abbrev pub withTask : State → ℕ → Task → State
+withTask s k x =
+    state s.directory s.clock s.on s.running s.channel s.idle s.spare s.pools (set (s .tasks) k x) s.requests s.queues
+
+abbrev pub withRequest : State → ℕ → Request → State
+withRequest s r x =
+    state s.directory s.clock s.on s.running s.channel s.idle s.spare s.pools s.tasks (set (s .requests) r x) s.queues
+
+abbrev pub withQueue : State → ℕ → List ℕ → State
+withQueue s q x =
+    state s.directory s.clock s.on s.running s.channel s.idle s.spare s.pools s.tasks s.requests (set (s .queues) q x)
+
+-- ---- What stands in a state.
+
+abbrev pub taskAt : State → ℕ → Task
+taskAt s k = getD (s .tasks) k noTask
+
+abbrev pub requestAt : State → ℕ → Request
+requestAt s r = getD (s .requests) r noRequest
+
+-- the units of a level that are granted, as a set
+abbrev pub poolAt : State → ℕ → ℕ
+poolAt s level = getD (s .pools) level 0
+
+abbrev pub queue : State → ℕ → List ℕ
+queue s q = getD (s .queues) q []
+
+-- the level and the core units of a task's module
+abbrev pub entryOf : State → ℕ → Entry
+entryOf s k = getD (s .directory .entries) (taskAt s k .program) noEntry
+
+abbrev pub levelOf : State → ℕ → ℕ
+levelOf s k = entryOf s k .level
+
+abbrev pub unitsOf : State → ℕ → ℕ
+unitsOf s k = entryOf s k .units
+
+-- ---- Joining the end of a queue, joining its front, leaving it.
+
+abbrev pub joining : State → ℕ → ℕ → State
+joining s q x = withQueue s q (queue s q ++ x ∷ [])
+
+abbrev pub leading : State → ℕ → ℕ → State
+leading s q x = withQueue s q (x ∷ queue s q)
+
+abbrev pub leaving : State → ℕ → ℕ → State
+leaving s q x = withQueue s q (without x (queue s q))
+
+-- ---- Between tables and states.
+
+abbrev pub read : Tables → State
+read t =
+    state t.directory t.clock t.on t.running t.channel t.idle t.spare t.pools t.tasks t.requests (queuesOf (t .threads))
+
+abbrev pub tabled : State → Tables
+tabled s =
+    record {
+      directory = s .directory;
+      clock = s .clock;
+      on = s .on;
+      running = s .running;
+      channel = s .channel;
+      idle = s .idle;
+      spare = s .spare;
+      pools = s .pools;
+      tasks = s .tasks;
+      requests = s .requests;
+      threads = threaded (s .queues);
+    }
+
+-- the set of the blocks 1 to n
+abbrev allUpTo : ℕ → ℕ
+allUpTo n = 2 ^ (n + 1) - 2
+
+-- "A loaded state has no tasks, all events off, clock 0."
+unfoldable pub loaded : Directory → State
+loaded d =
+    state d 0 0 0 0 (allUpTo taskBlocks) (allUpTo requestBlocks) (replicate 4 0) (replicate (taskBlocks + 1) noTask)
+    (replicate (requestBlocks + 1) noRequest) (replicate 9 [])
+
+-- "all-zero tables": nothing in them, and no block free
+unfoldable pub allZero : State
+allZero =
+    state noDirectory 0 0 0 0 0 0 (replicate 4 0) (replicate (taskBlocks + 1) noTask) (replicate (requestBlocks + 1) noRequest)
+    (replicate 9 [])

@@ -1,0 +1,9 @@
+pub mod Stores
+pub mod Lists
+pub mod Rows
+pub mod Links
+pub mod Laws
+pub mod Short
+pub mod Read
+pub mod Walk
+pub mod Unique

@@ -1,0 +1,166 @@
+/* "The desk program reads an image and then calls from standard input. It
+   writes a line for the load (refusal, M or 0, 0), then one per call; a short
+   last call is 10; after a refused load it stops."
+
+   With --check it tests its own tables after every call.
+   With --codes each line ends with the code of the call too, for counting. */
+#include "executive.h"
+#include "rules.h"
+
+#include <stdio.h>
+#include <stdlib.h>
+#include <string.h>
+
+/* What the arguments ask for. */
+struct wishes {
+    int check;
+    int codes;
+};
+
+/* A break is told loudly, and nothing goes on. */
+static void broken(unsigned long call, const char *words)
+{
+    fprintf(stderr, "desk: BROKEN after call %lu: %s\n", call, words);
+    abort();
+}
+
+/* "It writes a line [...]": each before the next call is waited for. */
+static void write_line(const struct answer *answer, const struct wishes *wishes,
+                       const char *code)
+{
+    printf("%d %d %d", answer->refusal, answer->result, answer->running);
+    if (wishes->codes) {
+        printf(" %s", code);
+    }
+    printf("\n");
+    fflush(stdout);
+}
+
+/* The name of a call's code, for counting. */
+static const char *code_name(const uint8_t *bytes, size_t length)
+{
+    if (length != CALL_LENGTH) {
+        return "short";
+    }
+    if (bytes[0] >= CODES || code_table[bytes[0]].name == NULL) {
+        return "unknown";
+    }
+    return code_table[bytes[0]].name;
+}
+
+/* "each task newly dispatched is the first of the best level that is ready":
+   the call is acted again without its dispatch, to see who was ready. */
+static void check_dispatch(const struct executive *before,
+                           const struct executive *after, unsigned long number,
+                           const uint8_t *bytes, size_t length)
+{
+    struct executive acted = *before;
+    int first = 0;
+    executive_act(&acted, bytes, length);
+    for (int level = LEVELS; level >= 1; level--) {
+        if (acted.ready[level].count > 0) {
+            first = acted.ready[level].block[0];
+        }
+    }
+    if (after->running != (acted.running != 0 ? acted.running : first)) {
+        broken(number, "the newly dispatched is the first of the best level");
+    }
+}
+
+/* Demand 3 and the table rules after a call, and "A refused call changes no
+   table [...] and no accepted answer carries a zero result". */
+static void check_call(const struct executive *before,
+                       const struct executive *after, unsigned long number,
+                       const uint8_t *bytes, size_t length,
+                       const struct answer *answer)
+{
+    const char *words = rules_broken(after);
+    if (words != NULL) {
+        broken(number, words);
+    }
+    if (answer->refusal != 0) {
+        if (memcmp(before, after, sizeof *before) != 0) {
+            broken(number, "a refused call changes no table");
+        }
+        if (answer->result != 0 || answer->running != before->running) {
+            broken(number, "a refused call has result 0, running unchanged");
+        }
+        return;
+    }
+    if (answer->result == 0) {
+        broken(number, "no accepted answer carries a zero result");
+    }
+    check_dispatch(before, after, number, bytes, length);
+}
+
+/* "then one per call; a short last call is 10" */
+static void take_calls(struct executive *executive, const struct wishes *wishes)
+{
+    struct executive before;
+    uint8_t bytes[CALL_LENGTH];
+    unsigned long number = 0;
+    size_t length = fread(bytes, 1, CALL_LENGTH, stdin);
+    while (length > 0) {
+        number++;
+        if (wishes->check) {
+            memcpy(&before, executive, sizeof before);
+        }
+        struct answer answer = executive_step(executive, bytes, length);
+        if (wishes->check) {
+            check_call(&before, executive, number, bytes, length, &answer);
+        }
+        write_line(&answer, wishes, code_name(bytes, length));
+        length = length < CALL_LENGTH ? 0 : fread(bytes, 1, CALL_LENGTH, stdin);
+    }
+}
+
+/* "An accepted image written back gives the same 512 bytes". */
+static void check_load(const struct executive *executive, const uint8_t *image)
+{
+    uint8_t written[IMAGE_LENGTH];
+    const char *words = rules_broken(executive);
+    if (words != NULL) {
+        broken(0, words);
+    }
+    if (image_write(&executive->directory, written, IMAGE_LENGTH).result != 1
+        || memcmp(written, image, IMAGE_LENGTH) != 0) {
+        broken(0, "an accepted image written back gives the same bytes");
+    }
+}
+
+/* The arguments; 0 if one isn't known. */
+static int read_wishes(struct wishes *wishes, int count, char **arguments)
+{
+    for (int i = 1; i < count; i++) {
+        if (strcmp(arguments[i], "--check") == 0) {
+            wishes->check = 1;
+        } else if (strcmp(arguments[i], "--codes") == 0) {
+            wishes->codes = 1;
+        } else {
+            return 0;
+        }
+    }
+    return 1;
+}
+
+/* "after a refused load it stops" */
+int main(int count, char **arguments)
+{
+    struct executive executive;
+    struct wishes wishes = {0, 0};
+    uint8_t image[IMAGE_LENGTH];
+    if (!read_wishes(&wishes, count, arguments)) {
+        fprintf(stderr, "usage: desk [--check] [--codes]\n");
+        return 2;
+    }
+    size_t length = fread(image, 1, IMAGE_LENGTH, stdin);
+    struct answer answer = executive_load(&executive, image, length);
+    if (wishes.check && answer.refusal == 0) {
+        check_load(&executive, image);
+    }
+    write_line(&answer, &wishes, "load");
+    if (answer.refusal == 0) {
+        take_calls(&executive, &wishes);
+    }
+    return 0;
+}
