@@ -1,6 +1,12 @@
-// Calls: the 16 bytes of a call, and the fixed table over the codes.
+// Calls: the 16 bytes of a call, the fixed table over the codes, and the three numbers of an answer.
 //
 // It answers for the first paragraphs of 'Calls' of document 01. It knows bytes and numbers, and nothing of tables.
+pub mod codes;
+
+use image::Outcome;
+ghost use mathlib.Core.List.{[], _∷_};
+ghost use mathlib.Core.Path.{_≡_};
+ghost use Rattle.calls.specs.Calls.{arrival, numbers};
 
 // A call: which it is, and its fields, used or not.
 pub struct Call {
@@ -16,4 +22,49 @@ pub struct Call {
 pub enum Arrival {
     Came(Call),
     Cut(u8),
+}
+
+// The three numbers of an answer: refusal (0 if accepted), result, running task afterwards (0 if idle).
+pub struct Answer {
+    pub refusal: u8,
+    pub result: u8,
+    pub running: u8,
+}
+
+// Reads a call from any bytes.
+pub fn read(bytes: &[u8]) -> Arrival
+    ensures { λ r. ⌜ r ≡ arrival (now (bytes .entry)) ⌝ }
+{
+    if bytes.len() != 16 {
+        return Arrival::Cut(10);
+    }
+    Arrival::Came(Call {
+        code: bytes[0],
+        kind: bytes[1],
+        number: bytes[2],
+        value: bytes[3],
+        amount: words::number(bytes, 4, 4) as u32,
+        events: words::number(bytes, 8, 8),
+    })
+}
+
+// The numbers of an answer while `running` is the running task; with refusal 9 no task is named.
+pub fn numbers(outcome: Outcome, running: u8) -> Answer
+    ensures { λ r. ⌜ r .refusal ∷ r .result ∷ r .running ∷ [] ≡ numbers outcome running ⌝ }
+{
+    match outcome {
+        Outcome::Accepted(result) => Answer {
+            refusal: 0,
+            result: result,
+            running: running,
+        },
+        Outcome::Refused(number) => {
+            let named = if number == 9 { 0 } else { running };
+            Answer {
+                refusal: number,
+                result: 0,
+                running: named,
+            }
+        }
+    }
 }
