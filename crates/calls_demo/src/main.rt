@@ -1,7 +1,6 @@
 // The crate `calls` at concrete values: calls read from bytes, what the table says of every code from 0 to 255, and the numbers of a few answers.
 //
 // What it must write stands in the file `stdout`, made by hand from document 01.
-mod saying;
 
 use calls::Arrival;
 use calls::Call;

@@ -1,5 +1,4 @@
 // What a directory holds, line by line.
-use crate::saying;
 use image::Directory;
 use image::Entry;
 

@@ -3,7 +3,6 @@
 //
 // It knows the image alone, and nothing of tables or calls.
 mod listing;
-mod saying;
 
 use image::Directory;
 use image::Outcome;
