@@ -2,7 +2,7 @@
 //
 // It answers for 'Phase image' of document 01, whole. It knows bytes and directories, and nothing of tables or calls.
 mod block;
-mod entries;
+pub mod entries;
 mod reading;
 mod writing;
 

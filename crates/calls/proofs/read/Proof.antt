@@ -1,5 +1,4 @@
 -- `read` meets its contract: the fields are read as they stand, and a number of four bytes fits in 32 bits.
-use native.Mathlib.Omega.{arith}
 use borrow.Author.Tests.{eq-eqb, ne-eqb}
 use Rattle.words.proofs.Numbers.{number-below}
 use Rattle.calls.specs.Calls.{callOf, arrival}

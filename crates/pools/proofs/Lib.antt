@@ -1,0 +1,6 @@
+pub mod Units
+pub mod Starts
+pub mod Search
+pub mod Runs
+pub mod Marked
+pub mod Unique
