@@ -4,7 +4,13 @@
 // call does to them.
 //
 // Block 0 names no block, and level 0 no level: slot 0 of `tasks`, `requests` and `pools` is always zero.
+ghost use mathlib.Core.Path.{_≡_};
+ghost use mathlib.Core.List.{[]};
+ghost use lib.ListN.{replicate};
+ghost use Rattle.tables.specs.Blocks.{noTask, noRequest};
+ghost use Rattle.tables.specs.State.{state, tabled, loaded, allZero};
 use image::Directory;
+use image::Entry;
 use threads::Threads;
 
 // place: 0 free, 1 running, 2 ready, 3 core queue, 4 event queue, 5 time queue, 6 in LINK, 7 in CHECK, 8 ending.
@@ -44,4 +50,68 @@ pub struct Tables {
     pub tasks: [Task; 25],
     pub requests: [Request; 17],
     pub threads: Threads,
+}
+
+// The tables of a directory, just loaded: no tasks, all events off, clock 0.
+pub fn loaded(directory: Directory) -> Tables
+    ensures { λ r. ⌜ r ≡ tabled (loaded directory) ⌝ }
+{
+    unused(directory, 33554430, 131070)
+}
+
+// The tables that a refused load gives.
+pub fn all_zero() -> Tables
+    ensures { λ r. ⌜ r ≡ tabled allZero ⌝ }
+{
+    let entry = Entry {
+        level: 0,
+        units: 0,
+        flags: 0,
+        point: 0,
+    };
+    let directory = Directory {
+        modules: 0,
+        every: 0,
+        defined: 0,
+        entries: [entry; 32],
+    };
+    unused(directory, 0, 0)
+}
+
+// The tables of a directory in which nothing is used, with the blocks of two sets free.
+fn unused(directory: Directory, idle: u32, spare: u32) -> Tables
+    ensures { λ r. ⌜ r ≡ tabled (state directory 0 0 0 0 idle spare (replicate 4 0) (replicate 25 noTask) (replicate 17 noRequest) (replicate 9 [])) ⌝ }
+{
+    let task = Task {
+        place: 0,
+        program: 0,
+        parent: 0,
+        core: 0,
+        start: 0,
+        count: 0,
+        events: 0,
+        time: 0,
+        request: 0,
+    };
+    let request = Request {
+        place: 0,
+        owner: 0,
+        device: 0,
+        command: 0,
+        bytes: 0,
+    };
+    let threads = threads::empty();
+    Tables {
+        directory: directory,
+        clock: 0,
+        on: 0,
+        running: 0,
+        channel: 0,
+        idle: idle,
+        spare: spare,
+        pools: [0; 4],
+        tasks: [task; 25],
+        requests: [request; 17],
+        threads: threads,
+    }
 }

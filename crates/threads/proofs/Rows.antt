@@ -1,41 +1,22 @@
--- Laws of `tab` and `row`: an array by node is a function of the node, and a store is a change of the function at one node.
-use mathlib.Core.Bool.{Bool, cond}
-use mathlib.Core.Path.{_≡_, refl, sym, ap, ap₂, _∙_}
-use mathlib.Core.Logic.{_≢_}
-use mathlib.Core.List.{List, _∷_}
+-- An array by block as a function of the block, `row`: its cells, and that two stores make the row of g out of the row of f, where f and g differ at
+-- the two blocks alone. Cell by cell.
+use mathlib.Core.Path.{_≡_, refl, sym, ap, _∙_}
+use mathlib.Core.Logic.{_≢_, ⊎-elim}
+use mathlib.Core.List.{List}
 use Prim.Native.Nat.{ℕ, zero, suc, _≤_, _<_}
 use native.Mathlib.Omega.{arith}
 use native.Mathlib.Nat.{le-of-suc-le-suc, not-suc-le-zero}
-use lib.ListN.{length, set, getD}
-use lib.Dec.{eqb, eqb·suc-suc, eqb·suc-zero}
-use borrow.Author.Tests.{eq-eqb, ne-eqb}
-use Rattle.threads.specs.Threads.{tab, row}
-use Rattle.threads.proofs.Stores.{put}
+use lib.ListN.{length, set, getD, length-set}
+use lib.Seq.{ext-getD, getD-set-same, getD-set-other}
+use borrow.Author.Tests.{ne-eqb}
+use Rattle.threads.specs.Threads.{BLOCKS, tab, row}
+use Rattle.threads.specs.Joints.{put}
+use Rattle.threads.proofs.Lists.{tested}
 
--- f, but v at p
-unfoldable pub upd : (ℕ → ℕ) → ℕ → ℕ → ℕ → ℕ
-upd f p v y = cond (eqb p y) v (f y)
-
-pub upd-here : (f : ℕ → ℕ) (p v : ℕ) → upd f p v p ≡ v
-unfolding upd
-upd-here f p v = rw (eq-eqb p p refl)
-
-pub upd-past : (f : ℕ → ℕ) (p v y : ℕ) → p ≢ y → upd f p v y ≡ f y
-unfolding upd
-upd-past f p v y n = rw (ne-eqb p y n)
-
-tab-cong : (n : ℕ) (f g : ℕ → ℕ) → ((i : ℕ) → f i ≡ g i) → tab n f ≡ tab n g
+length-tab : (n : ℕ) (f : ℕ → ℕ) → length (tab n f) ≡ n
 unfolding tab
-tab-cong zero f g h = refl
-tab-cong (suc n) f g h = ap₂ (λ (a : ℕ) (l : List ℕ). a ∷ l) (h 0) (tab-cong n (λ i. f (suc i)) (λ i. g (suc i)) (λ i. h (suc i)))
-
-tab-set : (n : ℕ) (f : ℕ → ℕ) (k v : ℕ) → set (tab n f) k v ≡ tab n (upd f k v)
-unfolding tab upd
-tab-set zero f k v = refl
-tab-set (suc n) f zero v = ap (λ (l : List ℕ). v ∷ l) (tab-cong n _ _ (λ i. sym (upd-past f 0 v (suc i) (omega arith))))
-tab-set (suc n) f (suc k) v =
-    ap₂ (λ (a : ℕ) (l : List ℕ). a ∷ l) (sym (upd-past f (suc k) v 0 (omega arith)))
-    (tab-set n (λ i. f (suc i)) k v ∙ tab-cong n _ _ (λ i. sym (ap (λ (b : Bool). cond b v (f (suc i))) (eqb·suc-suc k i))))
+length-tab zero f = refl
+length-tab (suc n) f = ap suc (length-tab n (λ i. f (suc i)))
 
 tab-at : (n : ℕ) (f : ℕ → ℕ) (i : ℕ) → i < n → getD (tab n f) i 0 ≡ f i
 unfolding tab
@@ -43,32 +24,58 @@ tab-at zero f i h = absurd (not-suc-le-zero h)
 tab-at (suc n) f zero h = refl
 tab-at (suc n) f (suc i) h = tab-at n (λ j. f (suc j)) i (le-of-suc-le-suc h)
 
-length-tab : (n : ℕ) (f : ℕ → ℕ) → length (tab n f) ≡ n
-unfolding tab
-length-tab zero f = refl
-length-tab (suc n) f = ap suc (length-tab n (λ i. f (suc i)))
-
-pub length-row : (f : ℕ → ℕ) → length (row f) ≡ 41
+pub length-row : (f : ℕ → ℕ) → length (row f) ≡ suc BLOCKS
 unfolding row
-length-row f = ap suc (length-tab 40 (λ i. f (suc i)))
+length-row f = ap suc (length-tab BLOCKS (λ i. f (suc i)))
 
-pub row-at : (f : ℕ → ℕ) (y : ℕ) → 1 ≤ y → y ≤ 40 → getD (row f) y 0 ≡ f y
+pub row-at : (f : ℕ → ℕ) (y : ℕ) → 1 ≤ y → y ≤ BLOCKS → getD (row f) y 0 ≡ f y
 unfolding row
-row-at f zero p h = absurd (not-suc-le-zero p)
-row-at f (suc y) p h = tab-at 40 (λ i. f (suc i)) y h
+row-at f zero some low = absurd (not-suc-le-zero some)
+row-at f (suc y) some low = tab-at BLOCKS (λ i. f (suc i)) y low
 
-pub row-cong : (f g : ℕ → ℕ) → ((y : ℕ) → 1 ≤ y → f y ≡ g y) → row f ≡ row g
+-- an array with the cells of the row is the row
+pub row-is : (a : List ℕ) (f : ℕ → ℕ) → length a ≡ suc BLOCKS → getD a 0 0 ≡ 0 → ((y : ℕ) → 1 ≤ y → y ≤ BLOCKS → getD a y 0 ≡ f y) → a ≡ row f
 unfolding row
-row-cong f g h = ap (λ (l : List ℕ). 0 ∷ l) (tab-cong 40 _ _ (λ i. h (suc i) (omega arith)))
+row-is a f n z h = ext-getD 0 a (row f) (n ∙ sym (length-row f)) cell
+  where
+    cell : (y : ℕ) → y < length a → getD a y 0 ≡ getD (row f) y 0
+    cell zero k = z
+    cell (suc y) k = h (suc y) (omega arith) (omega arith) ∙ sym (row-at f (suc y) (omega arith) (omega arith))
 
-pub row-set : (f : ℕ → ℕ) (p v : ℕ) → 1 ≤ p → set (row f) p v ≡ row (upd f p v)
-unfolding row upd
-row-set f zero v h = absurd (not-suc-le-zero h)
-row-set f (suc k) v h =
-    ap (λ (l : List ℕ). 0 ∷ l)
-    (tab-set 40 (λ i. f (suc i)) k v ∙ tab-cong 40 _ _ (λ i. sym (ap (λ (b : Bool). cond b v (f (suc i))) (eqb·suc-suc k i))))
+-- ---- Stores, each at a block or, at 0, none.
 
-pub row-put : (f : ℕ → ℕ) (p v : ℕ) → put (row f) p v ≡ row (upd f p v)
+pub put-some : (a : List ℕ) (i v : ℕ) → 1 ≤ i → put a i v ≡ set a i v
 unfolding put
-row-put f zero v = row-cong f (upd f 0 v) (λ y h. sym (upd-past f 0 v y (omega arith)))
-row-put f (suc k) v = rw (eqb·suc-zero k) (row-set f (suc k) v (omega arith))
+put-some a i v h = rw (ne-eqb i 0 (omega arith))
+
+-- a store at the block i, seen at the block y
+module _ (a : List ℕ) (i v : ℕ) where
+  length-put : length (put a i v) ≡ length a
+  unfolding put
+  length-put = ⊎-elim (λ e. rw (e .0)) (λ e. rw (e .0) (length-set a i v)) (tested i 0)
+
+  put-zero : getD (put a i v) 0 0 ≡ getD a 0 0
+  unfolding put
+  put-zero = ⊎-elim (λ e. rw (e .0)) (λ e. rw (e .0) (getD-set-other a i 0 v 0 (λ z. e .1 (sym z)))) (tested i 0)
+
+  put-at : (y n : ℕ) → 1 ≤ y → y < length a → (i ≡ y → v ≡ n) → (i ≢ y → getD a y 0 ≡ n) → getD (put a i v) y 0 ≡ n
+  unfolding put
+  put-at y n some low here past =
+      ⊎-elim
+      (λ e. rw (← e .1, ne-eqb i 0 (omega (arith, e .1))) (getD-set-same a i v 0 (omega (arith, e .1)) ∙ here (e .1)))
+      (λ e. ⊎-elim (λ z. rw (z .0) (past (e .1))) (λ z. rw (z .0) (getD-set-other a i y v 0 (λ k. e .1 (sym k)) ∙ past (e .1))) (tested i 0))
+      (tested i y)
+
+-- v stored at i, and w at j
+pub stored : (f g : ℕ → ℕ) (i v j w : ℕ) → (1 ≤ i → g i ≡ v) → (1 ≤ j → g j ≡ w) → ((y : ℕ) → 1 ≤ y → i ≢ y → j ≢ y → f y ≡ g y)
+    → put (put (row f) i v) j w ≡ row g
+unfolding row
+stored f g i v j w at-i at-j other =
+    let one = put (row f) i v in
+    let long : length one ≡ suc BLOCKS = length-put (row f) i v ∙ length-row f in
+    row-is (put one j w) g (length-put one j w ∙ long) (put-zero one j w ∙ put-zero (row f) i v)
+    (λ y some low.
+    put-at one j w y (g y) some (omega arith) (λ e. sym (at-j (omega (arith, e))) ∙ ap g e)
+    (λ n.
+    put-at (row f) i v y (g y) some (omega (arith, length-row f)) (λ e. sym (at-i (omega (arith, e))) ∙ ap g e)
+    (λ m. row-at f y some low ∙ other y some m n)))

@@ -1,55 +1,56 @@
--- What a `Threads` means: nine lists of numbers, `threaded` made from them, and `queuesOf` read back. 0 is 'no block'.
-use mathlib.Core.Bool.{cond}
+-- What a `Threads` means: a list of blocks for each queue, front first. `threaded` makes the pointers of such lists, `queuesOf` reads the
+-- lists off pointers, and `Sound` says that the two agree. Document 01: "Task and request blocks carry a forward and a back pointer for the
+-- queue they are on."
 use mathlib.Core.Path.{_≡_}
 use mathlib.Core.List.{List, [], _∷_, _++_, map}
 use Prim.Native.Nat.{ℕ, zero, suc, _+_, _≤_, _<_}
 use lib.ListN.{length, getD}
 use lib.Dec.{eqb}
+use Rattle.words.specs.Words.{if_then_else_}
 use Rattle.threads.specs.declared.Threads.{Threads}
 
--- The first of a list, or 0.
+-- how many queues and how many blocks. The blocks are 1 to BLOCKS, and 0 is no block
+abbrev pub QUEUES : ℕ
+QUEUES = 9
+
+abbrev pub BLOCKS : ℕ
+BLOCKS = 40
+
+-- ---- The pointers of lists.
+
+-- the first of a list, or 0
 abbrev pub hd : List ℕ → ℕ
 hd [] = 0
 hd (a ∷ l) = a
 
--- The last of a list, or p.
+-- the last of a list, or p
 abbrev pub lst : ℕ → List ℕ → ℕ
 lst p [] = p
 lst p (a ∷ l) = lst a l
 
--- The number that stands after y, or 0.
+-- the number that stands after y, or 0
 unfoldable pub after : List ℕ → ℕ → ℕ
 after [] y = 0
-after (a ∷ l) y = cond (eqb a y) (hd l) (after l y)
+after (a ∷ l) y = if eqb a y then hd l else after l y
 
--- The number that stands before y, where p stands before the list; or 0.
+-- the number that stands before y, where p stands before the list; or 0
 unfoldable pub before : ℕ → List ℕ → ℕ → ℕ
 before p [] y = 0
-before p (a ∷ l) y = cond (eqb a y) p (before a l y)
+before p (a ∷ l) y = if eqb a y then p else before a l y
 
--- How often y stands in a list, and in lists.
-unfoldable pub count : ℕ → List ℕ → ℕ
-count y [] = 0
-count y (a ∷ l) = cond (eqb a y) 1 0 + count y l
-
-unfoldable pub counts : ℕ → List (List ℕ) → ℕ
-counts y [] = 0
-counts y (l ∷ ls) = count y l + counts y ls
-
--- The lists in a row, a 0 after each.
+-- the lists in a row, a 0 after each: so 0 stands before the first of each and after its last
 unfoldable pub flat : List (List ℕ) → List ℕ
 flat [] = []
 flat (l ∷ ls) = l ++ 0 ∷ flat ls
 
--- f 0, .., f (n - 1); and the 41 cells of an array by node: 0 at 0, and f y at y.
+-- f 0, .., f (n - 1); and an array with a cell for each block, f y at the block y, and 0 at 0
 unfoldable pub tab : ℕ → (ℕ → ℕ) → List ℕ
 tab zero f = []
 tab (suc n) f = f 0 ∷ tab n (λ i. f (suc i))
 
 unfoldable pub row : (ℕ → ℕ) → List ℕ
-row f = 0 ∷ tab 40 (λ i. f (suc i))
+row f = 0 ∷ tab BLOCKS (λ y. f (suc y))
 
--- The pointers of the lists ls.
 unfoldable pub threaded : List (List ℕ) → Threads
 threaded ls =
     record {
@@ -59,53 +60,67 @@ threaded ls =
       last = map (lst 0) ls;
     }
 
--- Nine lists of the numbers 1 to 40, none of which stands in them twice.
-pub record Apart (ls : List (List ℕ)) : Type 0 where
-  pub nine : length ls ≡ 9
-  pub once : (y : ℕ) → counts y ls ≤ 1
-  pub inside : (y : ℕ) → 1 ≤ counts y ls → (1 ≤ y) × (y ≤ 40)
+-- ---- The lists of pointers.
 
--- The lists, read back: from the node y along fwd, to a 0.
+-- the blocks from y on along the pointers forward, to a 0; at most n of them, for pointers that go round
 unfoldable pub walk : List ℕ → ℕ → ℕ → List ℕ
-walk f zero y = []
-walk f (suc n) y = cond (eqb y 0) [] (y ∷ walk f n (getD f y 0))
+walk fwd zero y = []
+walk fwd (suc n) y = if eqb y 0 then [] else y ∷ walk fwd n (getD fwd y 0)
 
 unfoldable pub queuesOf : Threads → List (List ℕ)
-queuesOf t = map (walk (t .fwd) 41) (t .first)
+queuesOf t = map (walk (t .fwd) (suc BLOCKS)) (t .first)
 
--- t is the pointers of nine lists apart.
+-- ---- What is asked, and what is promised.
+
+-- how often y stands in a list, and in lists
+unfoldable pub count : ℕ → List ℕ → ℕ
+count y [] = 0
+count y (a ∷ l) = (if eqb a y then 1 else 0) + count y l
+
+unfoldable pub counts : ℕ → List (List ℕ) → ℕ
+counts y [] = 0
+counts y (l ∷ ls) = count y l + counts y ls
+
+-- a list for each queue, of blocks, no block in them twice
+pub record Apart (ls : List (List ℕ)) : Type 0 where
+  pub nine : length ls ≡ QUEUES
+  pub once : (y : ℕ) → counts y ls ≤ 1
+  pub inside : (y : ℕ) → 1 ≤ counts y ls → (1 ≤ y) × (y ≤ BLOCKS)
+
+-- t is the pointers of such lists
 pub record Sound (t : Threads) : Type 0 where
   pub apart : Apart (queuesOf t)
   pub canon : t ≡ threaded (queuesOf t)
 
--- t is sound, and ls are its lists.
+-- t is sound, and ls are its lists: what a function promises of its result, which leaves one result alone (proofs/Unique.antt)
 pub record Holds (t : Threads) (ls : List (List ℕ)) : Type 0 where
   pub sound : Sound t
   pub lists : queuesOf t ≡ ls
 
--- The list q of ls.
+-- the list of the queue q
 abbrev pub queue : List (List ℕ) → ℕ → List ℕ
 queue ls q = getD ls q []
 
--- t is sound, q is a queue, and x is a node of no queue: what a function that puts x in asks.
+-- t is sound, q is a queue, and x is a block of no queue: what a function that puts x into q asks
 pub record Free (t : Threads) (q x : ℕ) : Type 0 where
   pub sound : Sound t
-  pub queue : q < 9
+  pub queue : q < QUEUES
   pub some : 1 ≤ x
-  pub low : x ≤ 40
+  pub low : x ≤ BLOCKS
   pub none : counts x (queuesOf t) ≡ 0
 
--- t is sound, and x is in its queue q.
+-- t is sound, q is a queue, and x is in it: what a function that takes x out of q asks
 pub record Member (t : Threads) (q x : ℕ) : Type 0 where
   pub sound : Sound t
-  pub queue : q < 9
+  pub queue : q < QUEUES
   pub here : 1 ≤ count x (getD (queuesOf t) q [])
 
--- l without x; l with x before b.
+-- l without x
 unfoldable pub without : ℕ → List ℕ → List ℕ
 without x [] = []
-without x (a ∷ l) = cond (eqb a x) l (a ∷ without x l)
+without x (a ∷ l) = if eqb a x then l else a ∷ without x l
 
+-- l with x before b
 unfoldable pub insertBefore : ℕ → ℕ → List ℕ → List ℕ
 insertBefore b x [] = []
-insertBefore b x (a ∷ l) = cond (eqb a b) (x ∷ a ∷ l) (a ∷ insertBefore b x l)
+insertBefore b x (a ∷ l) = if eqb a b then x ∷ a ∷ l else a ∷ insertBefore b x l

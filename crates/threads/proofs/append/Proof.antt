@@ -1,47 +1,20 @@
+-- `append` puts its block in at the end of the queue.
 use borrow.Author.Needs.{needs}
-use mathlib.Core.Logic.{⊎-elim}
-use borrow.Author.Tests.{eq-eqb, ne-eqb}
-use Rattle.threads.proofs.Stores.{linked, put, putEnd}
-use Rattle.threads.proofs.Read.{last-fits, appended}
+use Rattle.threads.proofs.Places.{at-end, low}
+use Rattle.threads.proofs.Moves.{entered}
 use Rattle.threads.proofs.append.Statement.{statement}
 use Rattle.threads.proofs.append.Tie as tie
 
 element-copy-out-p : tie.Need-element-copy-out-p
 element-copy-out-p c = search needs
 
-element-write-u : tie.Need-element-write-u
-element-write-u c = search needs
-
-cast-u : tie.Need-cast-u
-cast-u c = search needs
-
-element-write-u-2 : tie.Need-element-write-u-2
-element-write-u-2 c = last-fits (c .before .before .pre .sound) (c .before .before .pre .queue)
-
-element-write-u-3 : tie.Need-element-write-u-3
-element-write-u-3 c = search needs
-
-element-write-u-4 : tie.Need-element-write-u-4
-element-write-u-4 c = search needs
-
-element-write-u-5 : tie.Need-element-write-u-5
-element-write-u-5 c = search needs
+linked-requires : tie.Need-linked-requires
+linked-requires c κs = let l = low (at-end (c .before .pre .sound) (c .before .pre .queue)) in search needs
 
 returns : tie.Need-returns
-unfolding linked put putEnd
 returns c =
-    appended (c .before .before .pre) _
-    (⊎-elim (λ w. rw (w .1, eq-eqb _ _ (w .0 .taken))) (λ w. rw (w .1, ne-eqb _ _ (w .0 .left))) (c .if1 .came))
+    let f = c .before .before .pre in
+    entered (at-end (f .sound) (f .queue)) f _ (c .linked .ensures)
 
 pub append-spec : {M : Type 1} → statement M
-append-spec =
-    tie.close
-    (tie.spec
-    element-copy-out-p
-    element-write-u
-    cast-u
-    element-write-u-2
-    element-write-u-3
-    element-write-u-4
-    element-write-u-5
-    returns)
+append-spec = tie.close (tie.spec element-copy-out-p linked-requires returns)

@@ -1,10 +1,12 @@
-use mathlib.Core.Path.{refl}
-use Rattle.threads.proofs.Read.{emptied}
+-- `empty` holds no block: by computing what its arrays hold.
+use borrow.Author.Needs.{needs}
+use Rattle.threads.specs.Threads.{after, before, flat, tab, row, threaded, walk, queuesOf, count, counts}
 use Rattle.threads.proofs.empty.Statement.{statement}
 use Rattle.threads.proofs.empty.Tie as tie
 
 returns : tie.Need-returns
-returns c = emptied _ refl
+unfolding queuesOf counts count walk threaded row tab after before flat
+returns c = search needs
 
 pub empty-spec : {M : Type 1} → statement M
 empty-spec = tie.close (tie.spec returns)

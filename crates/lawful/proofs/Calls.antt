@@ -1,0 +1,151 @@
+-- The calls that make a task or wait: from the rules, to all of them but that nobody is ready while no task runs, which the dispatch brings back. A new
+-- task is in hand until it is ready or waits; so is the caller of WAIT.
+use mathlib.Core.Bool.{Bool, true, false, cond}
+use mathlib.Core.Path.{_≡_, refl, ap}
+use mathlib.Core.Logic.{_≢_, ⊎-elim}
+use mathlib.Core.List.{List, []}
+use Prim.Native.Nat.{ℕ, _≤_, _<_}
+use native.Mathlib.Omega.{arith}
+use lib.ListN.{set}
+use lib.Seq.{getD-set-other}
+use Rattle.threads.specs.Threads.{count}
+use Rattle.threads.proofs.Lists.{tested}
+use Rattle.words.specs.Words.{least}
+use Rattle.tables.specs.State.{State, eventQueue, coreQueue, queue, withRunning}
+use Rattle.tables.specs.Blocks.{noTask}
+use Rattle.calls.specs.declared.Call.{Call}
+use Rattle.meaning.specs.Conditions.{enough, holds, dueOf, waiting, awaitsEvents, awaitsTime}
+use Rattle.meaning.specs.Ready.{madeReady}
+use Rattle.meaning.specs.Services.{created, start, schedule, wait, testEvent}
+use Rattle.lawful.specs.Shape.{Shape, InHand}
+use Rattle.lawful.specs.Resting.{Rest, Lawful, Settled}
+use Rattle.lawful.specs.Accepts.{Condition}
+use Rattle.lawful.proofs.Enter.{hand-count}
+use Rattle.lawful.proofs.Made.{made-ready}
+use Rattle.lawful.proofs.Leave.{stop}
+use Rattle.lawful.proofs.Free.{least-in, least-some, least-low}
+use Rattle.lawful.proofs.Create.{create}
+use Rattle.lawful.proofs.Resting.{rest-beside, rest-made}
+use Rattle.lawful.proofs.Waits.{await-event, event-rest, await-time, time-rest}
+
+pub settled : {s : State} → Shape s [] 0 → Rest s [] → Settled s
+settled g r = record { shape = g; rest = r }
+
+-- ---- TEST EVENT.
+pub test-event-keeps : {s : State} (c : Call) → Lawful s → Settled (testEvent s c .state)
+unfolding testEvent
+test-event-keeps c g = settled (g .shape) (g .rest)
+
+-- ---- A new task.
+module _ {s : State} (g : Lawful s) (m : ℕ) (known : m < s .directory .modules) (some : s .idle ≢ 0) where
+  abbrev k : ℕ
+  k = least (s .idle)
+
+  module _ (p : ℕ) (parent : p ≤ 24) (apart : p ≢ k) where
+    pub new : InHand (created s k m p) k [] p
+    new =
+        let b = g .shape .blank in
+        create (g .shape) k m p (least-some (s .idle) 25 (omega arith) (b .idle) some (b .idle-none))
+        (omega (arith, least-low (s .idle) 25 (omega arith) (b .idle) some (b .idle-none)))
+        (least-in (s .idle) 25 (omega arith) (b .idle) some (b .idle-none)) known parent apart
+
+    pub new-rest : Rest (created s k m p) []
+    unfolding created
+    new-rest =
+        rest-beside {s = s} {k = k} (record {
+          directory = refl;
+          on = refl;
+          channel = refl;
+          tasks = λ y d. getD-set-other (s .tasks) k y _ noTask d;
+          pools = λ level lo hi. refl;
+          event = λ y c. (c, λ z. omega (arith, c, hand-count new eventQueue (omega arith), ap (λ (w : ℕ). count w (queue s eventQueue)) z));
+          core = λ level lo hi. refl;
+          out = λ level lo hi. hand-count new (coreQueue level) (omega arith);
+          requested = refl;
+        }) (g .rest)
+
+  new-apart : 0 ≢ k
+  new-apart z = let b = g .shape .blank in omega (arith, z, least-some (s .idle) 25 (omega arith) (b .idle) some (b .idle-none))
+
+  pub made-settled : Settled (madeReady (created s k m 0) k)
+  made-settled =
+      let i = new 0 (omega arith) new-apart in
+      let d = made-ready i in
+      settled (d .shape) (rest-made i d (new-rest 0 (omega arith) new-apart))
+
+-- ---- Operator start.
+pub start-keeps : {s : State} (c : Call) → Lawful s → c .number < s .directory .modules → s .idle ≢ 0 → Settled (start s c .state)
+unfolding start
+start-keeps c g known some = made-settled g (c .number) known some
+
+-- ---- Waiting. A block in hand waits, for a condition that does not hold
+module _ {s : State} {k : ℕ} {h : List ℕ} {e : ℕ} {c : Call} (i : InHand s k h e) (w : Condition s c) (f : holds s c ≡ false) where
+  not-yet : c .kind ≡ 1 → enough s (c .value) (c .events) ≡ false
+  unfolding holds
+  not-yet z = rw z at f
+
+  pub wait-shape : Shape (waiting s k c) h e
+  unfolding waiting awaitsEvents awaitsTime
+  wait-shape =
+      ⊎-elim
+      (λ z. rw (z .0) (await-event i (c .value) (c .events) (w .set (z .1))))
+      (λ z. rw (z .0) (await-time i (dueOf s c))) (tested (c .kind) 1)
+
+  pub wait-rest : {m : List ℕ} → Rest s m → Rest (waiting s k c) m
+  unfolding waiting awaitsEvents awaitsTime
+  wait-rest r =
+      ⊎-elim
+      (λ z. rw (z .0) (event-rest i (c .value) (c .events) (w .set (z .1)) (not-yet (z .1)) r))
+      (λ z. rw (z .0) (time-rest i (dueOf s c) r)) (tested (c .kind) 1)
+
+condition-new : {s : State} {c : Call} (k m : ℕ) → Condition s c → Condition (created s k m 0) c
+unfolding created
+condition-new k m w = record { set = w .set }
+
+holds-new : (s : State) (k m : ℕ) (c : Call) → holds s c ≡ false → holds (created s k m 0) c ≡ false
+unfolding holds created enough dueOf
+holds-new s k m c f = f
+
+holds-stopped : (s : State) (c : Call) → holds s c ≡ false → holds (withRunning s 0) c ≡ false
+unfolding holds enough dueOf
+holds-stopped s c f = f
+
+-- the rules of rest do not ask who runs
+pub rest-stopped : (s : State) (r : ℕ) {m : List ℕ} → Rest s m → Rest (withRunning s r) m
+unfolding enough
+rest-stopped s r a =
+    record {
+      asleep = record { asleep = a .asleep .asleep };
+      stuck = λ level lo hi. record { stuck = a .stuck level lo hi .stuck };
+      flowing = record { flowing = a .flowing .flowing };
+    }
+
+-- ---- SCHEDULE.
+pub schedule-keeps : {s : State} (c : Call) → Lawful s → c .number < s .directory .modules → s .idle ≢ 0 → Condition s c → Settled (schedule s c .state)
+unfolding schedule
+schedule-keeps {s} c g known some w = go (holds s c) refl
+  where
+    k : ℕ
+    k = least (s .idle)
+
+    go : (b : Bool) → holds s c ≡ b → Settled (cond b (madeReady (created s k (c .number) 0) k) (waiting (created s k (c .number) 0) k c))
+    go true f = made-settled g (c .number) known some
+    go false f =
+        let a = new-apart g (c .number) known some in
+        let i = new g (c .number) known some 0 (omega arith) a in
+        let w′ : Condition (created s k (c .number) 0) c = condition-new k (c .number) w in
+        let f′ : holds (created s k (c .number) 0) c ≡ false = holds-new s k (c .number) c f in
+        settled (wait-shape i w′ f′) (wait-rest i w′ f′ (new-rest g (c .number) known some 0 (omega arith) a))
+
+-- ---- WAIT.
+pub wait-keeps : {s : State} (c : Call) → Lawful s → s .running ≢ 0 → Condition s c → Settled (wait s c .state)
+unfolding wait
+wait-keeps {s} c g n w = go (holds s c) refl
+  where
+    go : (b : Bool) → holds s c ≡ b → Settled (cond b s (waiting (withRunning s 0) (s .running) c))
+    go true f = settled (g .shape) (g .rest)
+    go false f =
+        let i = stop (g .shape) n in
+        let w′ : Condition (withRunning s 0) c = record { set = w .set } in
+        let f′ = holds-stopped s c f in
+        settled (wait-shape i w′ f′) (wait-rest i w′ f′ (rest-stopped s 0 (g .rest)))

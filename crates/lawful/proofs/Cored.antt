@@ -1,0 +1,249 @@
+-- Core is granted to a task, or given back by it: one block and one pool change. The units stay those of the runs because the granted run is apart from
+-- the pool, and the one given back inside it.
+use mathlib.Core.Bool.{true, cond, and-false}
+use mathlib.Core.Path.{_≡_, refl, sym, ap, _∙_}
+use mathlib.Core.Logic.{_≢_, inl, ⊎-elim}
+use mathlib.Core.List.{List}
+use Prim.Native.Nat.{ℕ, suc, _+_, _-_, _*_, _^_, _≤_, _<_}
+use native.Mathlib.Omega.{arith}
+use native.Mathlib.Nat.{pow-suc, mul-le-mul-right}
+use lib.ListN.{length, set, getD, length-set}
+use lib.Seq.{getD-set-same, getD-set-other}
+use lib.Bits.{bitAnd}
+use lib.Pow.{shl-lt, ones-lt, pow-mono, pow-pos, pow-add}
+use borrow.Author.Tests.{eq-eqb, ne-eqb}
+use Rattle.threads.specs.Threads.{count}
+use Rattle.threads.proofs.Lists.{tested}
+use Rattle.words.specs.Words.{_among_}
+use Rattle.image.specs.declared.Directory.{Directory}
+use Rattle.image.specs.Directory.{noEntry}
+use Rattle.tables.specs.declared.Task.{Task}
+use Rattle.tables.specs.State.{State, timeQueue, state, taskAt, poolAt, queue, levelOf, unitsOf}
+use Rattle.tables.specs.Blocks.{Free, task, noTask}
+use Rattle.pools.specs.Pools.{run, freeAt}
+use Rattle.meaning.specs.Ready.{startFor, granted}
+use Rattle.meaning.specs.Rules.{queueFor}
+use Rattle.lawful.specs.Shape.{one, bit, Hand, placeOf, moduleOf, Fields, Stands, holding, Core, Shape}
+use Rattle.lawful.proofs.Change.{change, ranked-kept}
+use Rattle.lawful.proofs.Queues.{up-same}
+use Rattle.lawful.proofs.Sums.{field-kept, sum-set, sum-kept, sum-le, le-or}
+use Rattle.lawful.proofs.Runs.{start-free, run-fits, run-apart}
+use Rattle.lawful.proofs.Bits.{bit-add, bit-sub}
+use Rattle.lawful.proofs.Members.{level-best, level-worst}
+
+-- ---- What one task holds of a unit.
+module _ (d : Directory) (level u : ℕ) (t : Task) where
+  pub holding-own : t .core ≡ 1 → moduleOf d t .level ≡ level → holding d level u t ≡ bit (run (t .start) (moduleOf d t .units)) u
+  unfolding holding
+  holding-own a b = rw (eq-eqb _ _ a, eq-eqb _ _ b)
+
+  pub holding-none : t .core ≢ 1 → holding d level u t ≡ 0
+  unfolding holding
+  holding-none n = rw (ne-eqb _ _ n)
+
+  pub holding-other : moduleOf d t .level ≢ level → holding d level u t ≡ 0
+  unfolding holding
+  holding-other n = rw (ne-eqb _ _ n, and-false)
+
+-- ---- The law: core and start of one block change, and one pool, so that the units are still those of the runs.
+module _ (s : State) (k c a level x : ℕ) where
+  abbrev pub recored : Task
+  recored = let t = taskAt s k in task t.place t.program t.parent c a t.count t.events t.time t.request
+
+  abbrev pub coring : State
+  coring =
+      state s.directory s.clock s.on s.running s.channel s.idle s.spare (set (s .pools) level x) (set (s .tasks) k recored) s.requests s.queues
+
+  kept : (f : Task → ℕ) → f recored ≡ f (taskAt s k) → (y : ℕ) → f (taskAt coring y) ≡ f (taskAt s y)
+  kept f e y = field-kept f (s .tasks) k y recored noTask e
+
+  pub core-level : (y : ℕ) → levelOf coring y ≡ levelOf s y
+  core-level y = ap (λ (i : ℕ). getD (s .directory .entries) i noEntry .level) (kept (λ t. t .program) refl y)
+
+  pub core-units : (y : ℕ) → unitsOf coring y ≡ unitsOf s y
+  core-units y = ap (λ (i : ℕ). getD (s .directory .entries) i noEntry .units) (kept (λ t. t .program) refl y)
+
+  pub core-place : (h : List ℕ) (y : ℕ) → placeOf coring h y ≡ placeOf s h y
+  unfolding placeOf
+  core-place h y = ap (λ (i : ℕ). cond (y among h) Hand i) (kept (λ t. t .place) refl y)
+
+  module _ {h : List ℕ} {e : ℕ} (g : Shape s h e) (some : 1 ≤ k) (low : k ≤ 24) (best : 1 ≤ level) (f : Fields (s .directory) (placeOf s h k) recored)
+      (r : Core (s .directory) (set (s .tasks) k recored) (set (s .pools) level x)) where
+    pub core-same : taskAt coring k ≡ recored
+    core-same = getD-set-same (s .tasks) k recored noTask (omega (arith, g .sizes .tasks))
+
+    cored-own : Stands coring (placeOf coring h k) k
+    cored-own =
+        let w = g .tasks k some low in
+        rw (core-place h k) (record {
+          fields = rw core-same f;
+          queued = λ q l. w .queued q l ∙ sym (ap (λ (b : ℕ). one (queueFor (placeOf s h k) b) q) (core-level k));
+          runs = w .runs;
+          idle = w .idle;
+          checks = λ p. rw (kept (λ t. t .request) refl k) (w .checks p);
+          ends = w .ends;
+        })
+
+    pub recore : Shape coring h e
+    recore =
+        change s k (set (s .tasks) k recored) (s .running) (s .idle) (set (s .pools) level x) (s .queues) g (record {
+          some = some;
+          low = low;
+          own = cored-own;
+          owner = λ j b b′ m z. (λ w. g .requests j b b′ .owned m (ap (placeOf s h) z ∙ sym (core-place h k) ∙ w), core-level k);
+          blocks = λ y d. getD-set-other (s .tasks) k y recored noTask d;
+          hands = λ y d. refl;
+          queues = λ q y d. refl;
+          runs = λ y b d. refl;
+          idle = λ y d. refl;
+          long = length-set (s .tasks) k recored ∙ g .sizes .tasks;
+          nine = g .sizes .queues;
+          four = length-set (s .pools) level x ∙ g .sizes .pools;
+          running = g .blank .running;
+          idles = g .blank .idle;
+          pool = getD-set-other (s .pools) level 0 x 0 (λ z. omega (arith, z, best)) ∙ g .blank .pool;
+          core = r;
+          links = λ y b b′. sum-kept (λ (t : Task). one (t .parent) y) (s .tasks) k recored noTask refl ∙ rw (core-place h y) (g .links y b b′);
+          ranked = ranked-kept (g .ranked) (λ y b. inl (kept (λ t. t .parent) refl y));
+          timed = up-same _ (λ a. taskAt s a .time) (queue s timeQueue) (λ y c. kept (λ t. t .time) refl y) ∙ g .timed;
+          channel = refl;
+        })
+
+-- ---- Pools.
+module _ (d : Directory) (l : List Task) (pools : List ℕ) (k : ℕ) (y : Task) (x : ℕ) (g : Core d l pools) (low : k < length l) (four : length pools ≡ 4) where
+  abbrev t : Task
+  t = getD l k noTask
+
+  -- the block k holds as before but on its level, whose pool becomes x
+  pub repool : (level : ℕ) → level ≤ 3 → x < 2 ^ 64
+      → ((i u : ℕ) → i ≢ level → holding d i u y ≡ holding d i u t)
+      → ((u : ℕ) → bit x u + holding d level u t ≡ bit (getD pools level 0) u + holding d level u y)
+      → Core d (set l k y) (set pools level x)
+  repool level b xl other own =
+      record {
+        low = λ i. ⊎-elim (λ z. rw (z .1, getD-set-same pools level x 0 (omega (arith, four))) xl)
+            (λ z. rw (getD-set-other pools level i x 0 (z .1)) (g .low i)) (tested i level);
+        units = λ i u p q. ⊎-elim
+            (λ z. rw (z .1, getD-set-same pools level x 0 (omega (arith, four)))
+            (omega (arith, sum-set (holding d level u) l k y noTask low, g .units level u (rw (z .1) at p) b, own u)))
+            (λ z. rw (getD-set-other pools level i x 0 (z .1))
+            (omega (arith, sum-set (holding d i u) l k y noTask low, g .units i u p q, other i u (z .1)))) (tested i level);
+      }
+
+-- a run that is a word of 64 units ends inside them
+run-inside : (a n : ℕ) → 1 ≤ n → run a n < 2 ^ 64 → a + n ≤ 64
+run-inside a n i h =
+    ⊎-elim
+    (λ l. l)
+    (λ l.
+    let m = n - 1 in
+    let e : n ≡ suc m = omega arith in
+    let p : 2 ^ n ≡ 2 ^ m * 2 = ap (λ (x : ℕ). 2 ^ x) e ∙ pow-suc 2 m in
+    let b : 2 ^ m * 2 ^ a ≤ run a n = mul-le-mul-right (2 ^ a) (omega (arith, p, pow-pos m)) in
+    let c : 2 ^ 64 ≤ 2 ^ (m + a) = pow-mono {i = 64} {j = m + a} (omega (arith, l, e)) in
+    absurd (omega (arith, b, c, pow-add 2 m a, h)))
+    (le-or (a + n) 64)
+
+-- ---- Granting.
+module _ {s : State} {h : List ℕ} {e k : ℕ} (g : Shape s h e) (some : 1 ≤ k) (low : k ≤ 24) (hand : placeOf s h k ≡ Hand) where
+  used : placeOf s h k ≢ Free
+  used z = omega (arith, hand, z)
+
+  module _ (n : 1 ≤ unitsOf s k) (z : taskAt s k .core ≡ 0) (f : startFor s k < 64) where
+    is-free : freeAt (poolAt s (levelOf s k)) (unitsOf s k) (startFor s k) ≡ true
+    unfolding startFor
+    is-free = start-free (poolAt s (levelOf s k)) (unitsOf s k) f
+
+    fits-in : poolAt s (levelOf s k) + run (startFor s k) (unitsOf s k) < 2 ^ 64
+    fits-in = run-fits (poolAt s (levelOf s k)) (unitsOf s k) (startFor s k) (g .core .low (levelOf s k)) is-free
+
+    apart : bitAnd (poolAt s (levelOf s k)) (run (startFor s k) (unitsOf s k)) ≡ 0
+    apart = run-apart (poolAt s (levelOf s k)) (unitsOf s k) (startFor s k) (g .core .low (levelOf s k)) is-free
+
+    pub grant : Shape (granted s k) h e
+    unfolding granted
+    grant =
+        let w = g .tasks k some low .fields in
+        let i = run-inside (startFor s k) (unitsOf s k) n (omega (arith, fits-in)) in
+        recore s k 1 (startFor s k) (levelOf s k) _ g some low (level-best g some low used)
+        (rw hand (let v = rw hand at w in record {
+          kind = v .kind;
+          place = v .place;
+          free = λ b. absurd (omega (arith, b));
+          program = v .program;
+          parent = v .parent;
+          core = omega arith;
+          inside = λ b. i;
+          start = λ b. absurd (b refl);
+          unneeded = λ b. absurd (omega (arith, b, n));
+          waits = λ b. absurd (omega (arith, b));
+          needs = λ b c. absurd (omega (arith, c));
+          event = v .event;
+          time = v .time;
+          request = v .request;
+          passes = λ b. absurd (omega (arith, b));
+        }))
+        (repool (s .directory) (s .tasks) (s .pools) k _ _ (g .core) (omega (arith, g .sizes .tasks)) (g .sizes .pools) (levelOf s k)
+        (level-worst g some low used) fits-in
+        (λ i u b. holding-other (s .directory) i u _ (λ c. b (sym c)) ∙ sym (holding-none (s .directory) i u _ (λ c. omega (arith, c, z))))
+        (λ u. omega (
+          arith,
+          holding-none (s .directory) (levelOf s k) u (taskAt s k) (λ c. omega (arith, c, z)),
+          holding-own (s .directory) (levelOf s k) u (recored s k 1 (startFor s k) (levelOf s k) 0) refl refl,
+          bit-add u (poolAt s (levelOf s k)) (run (startFor s k) (unitsOf s k)) apart,
+        )))
+
+-- ---- Giving back.
+module _ {s : State} {h : List ℕ} {e k : ℕ} (g : Shape s h e) (some : 1 ≤ k) (low : k ≤ 24) (o : taskAt s k .core ≡ 1) where
+  abbrev pub given-back : State
+  given-back = coring s k 2 0 (levelOf s k) (poolAt s (levelOf s k) - run (taskAt s k .start) (unitsOf s k))
+
+  pub used-holder : placeOf s h k ≢ Free
+  used-holder z = omega (arith, g .tasks k some low .fields .free z, o)
+
+  run-word : run (taskAt s k .start) (unitsOf s k) < 2 ^ 64
+  run-word =
+      let i = g .tasks k some low .fields .inside o in
+      let a = shl-lt (unitsOf s k) (taskAt s k .start) (ones-lt (unitsOf s k)) in
+      let b : 2 ^ (unitsOf s k + taskAt s k .start) ≤ 2 ^ 64 = pow-mono {i = unitsOf s k + taskAt s k .start} {j = 64} (omega (arith, i)) in
+      omega (arith, a, b)
+
+  run-granted : (u : ℕ) → bit (run (taskAt s k .start) (unitsOf s k)) u ≤ bit (poolAt s (levelOf s k)) u
+  run-granted u =
+      omega (
+        arith,
+        sum-le (holding (s .directory) (levelOf s k) u) (s .tasks) k noTask (omega (arith, g .sizes .tasks)),
+        g .core .units (levelOf s k) u (level-best g some low used-holder) (level-worst g some low used-holder),
+        holding-own (s .directory) (levelOf s k) u (taskAt s k) o refl,
+      )
+
+  pub give-back : Shape given-back h e
+  give-back =
+      let v = g .tasks k some low .fields in
+      recore s k 2 0 (levelOf s k) _ g some low (level-best g some low used-holder)
+      (record {
+        kind = v .kind;
+        place = v .place;
+        free = λ b. absurd (used-holder b);
+        program = v .program;
+        parent = v .parent;
+        core = omega arith;
+        inside = λ b. absurd (omega (arith, b));
+        start = λ b. refl;
+        unneeded = λ b. absurd (omega (arith, v .unneeded b, o));
+        waits = λ b. absurd (omega (arith, v .waits b, o));
+        needs = λ b c. absurd (omega (arith, c));
+        event = v .event;
+        time = v .time;
+        request = v .request;
+        passes = v .passes;
+      })
+      (repool (s .directory) (s .tasks) (s .pools) k _ _ (g .core) (omega (arith, g .sizes .tasks)) (g .sizes .pools) (levelOf s k)
+      (level-worst g some low used-holder) (omega (arith, g .core .low (levelOf s k)))
+      (λ i u b. holding-none (s .directory) i u _ (λ c. omega (arith, c)) ∙ sym (holding-other (s .directory) i u _ (λ c. b (sym c))))
+      (λ u. omega (
+        arith,
+        holding-own (s .directory) (levelOf s k) u (taskAt s k) o refl,
+        holding-none (s .directory) (levelOf s k) u (recored s k 2 0 (levelOf s k) 0) (λ c. omega (arith, c)),
+        bit-sub 64 u (poolAt s (levelOf s k)) (run (taskAt s k .start) (unitsOf s k)) run-word run-granted,
+      )))

@@ -1,0 +1,170 @@
+-- A task is made in a free block, which is then in hand; its parent is excused for having a child while it is not in LINK. The law of one changed block;
+-- the child's rank is one above its parent's.
+use mathlib.Core.Bool.{cond}
+use mathlib.Core.Path.{_≡_, refl, sym, ap, _∙_}
+use mathlib.Core.Logic.{_≢_, ⊎-elim}
+use mathlib.Core.List.{List, _∷_}
+use Prim.Native.Nat.{ℕ, suc, _+_, _≤_, _<_}
+use native.Mathlib.Omega.{arith}
+use lib.ListN.{set, length-set}
+use lib.Seq.{getD-set-same, getD-set-other}
+use lib.Dec.{eqb}
+use borrow.Author.Tests.{eq-eqb, ne-eqb}
+use Rattle.threads.specs.Threads.{count}
+use Rattle.threads.proofs.Lists.{tested}
+use Rattle.words.specs.Words.{_among_, dropping}
+use Rattle.tables.specs.declared.Task.{Task}
+use Rattle.tables.specs.State.{State, timeQueue, taskAt, queue, levelOf}
+use Rattle.tables.specs.Blocks.{Free, Running, InLink, task, noTask}
+use Rattle.meaning.specs.Services.{created}
+use Rattle.meaning.specs.Rules.{queueFor}
+use Rattle.lawful.specs.Shape.{one, bit, Hand, placeOf, Stands, children, Shape, InHand}
+use Rattle.lawful.proofs.Change.{change, past-hand, core-kept}
+use Rattle.lawful.proofs.Sums.{sum-set, sum-le}
+use Rattle.lawful.proofs.Shape.{one-sym, one-same, one-other, one-eq, held-place, other-place}
+use Rattle.lawful.proofs.Queues.{up-same}
+use Rattle.lawful.proofs.Cored.{holding-none}
+use Rattle.lawful.proofs.Members.{not-in}
+use Rattle.lawful.proofs.Free.{dropped-same, dropped-other, dropped-le}
+
+module _ {s : State} {h : List ℕ} (g : Shape s h 0) (k m p : ℕ) (some : 1 ≤ k) (low : k ≤ 24) (idle : bit (s .idle) k ≡ 1)
+    (known : m < s .directory .modules) (parent : p ≤ 24) (apart : p ≢ k) where
+  abbrev fresh : Task
+  fresh = task 0 m p 0 0 0 0 0 0
+
+  abbrev made : State
+  made = record {
+    directory = s .directory;
+    clock = s .clock;
+    on = s .on;
+    running = s .running;
+    channel = s .channel;
+    idle = dropping (s .idle) k;
+    spare = s .spare;
+    pools = s .pools;
+    tasks = set (s .tasks) k fresh;
+    requests = s .requests;
+    queues = s .queues;
+  }
+
+  was : Stands s (placeOf s h k) k
+  was = g .tasks k some low
+
+  was-free : placeOf s h k ≡ Free
+  was-free = one-eq _ Free (sym (was .idle) ∙ idle)
+
+  zeros : taskAt s k .place + taskAt s k .program + taskAt s k .parent + taskAt s k .core + taskAt s k .start + taskAt s k .count + taskAt s k .events + taskAt s k .time + taskAt s k .request ≡ 0
+  zeros = was .fields .free was-free
+
+  no-queue : (q : ℕ) → q < 9 → count k (queue s q) ≡ 0
+  unfolding queueFor
+  no-queue q l = was .queued q l ∙ ap (λ (x : ℕ). one (queueFor x (levelOf s k)) q) was-free ∙ one-other 9 q (λ z. omega (arith, z, l))
+
+  other : (y : ℕ) → y ≢ k → taskAt made y ≡ taskAt s y
+  other y d = getD-set-other (s .tasks) k y fresh noTask d
+
+  same : taskAt made k ≡ fresh
+  same = getD-set-same (s .tasks) k fresh noTask (omega (arith, g .sizes .tasks))
+
+  place-other : (y : ℕ) → y ≢ k → placeOf made (k ∷ h) y ≡ placeOf s h y
+  unfolding placeOf
+  place-other y d = other-place made h k y d ∙ ap (λ (t : Task). cond (y among h) Hand (t .place)) (other y d)
+
+  childless : children (s .tasks) k ≡ 0
+  childless = g .links k some low ∙ omega (arith, ap (λ (x : ℕ). one x InLink) was-free, one-other Free InLink (λ z. omega (arith, z)), one-other k 0 (λ z. omega (arith, z)))
+
+  not-parent : (y : ℕ) → y ≤ 24 → taskAt s y .parent ≢ k
+  not-parent y b z =
+      omega (arith, childless, sum-le (λ t. one (t .parent) k) (s .tasks) y noTask (omega (arith, g .sizes .tasks)), one-same (taskAt s y .parent) k z)
+
+  made-own : Stands made (placeOf made (k ∷ h) k) k
+  unfolding queueFor
+  made-own =
+      rw (held-place made h k) (record {
+        fields = rw same (record {
+          kind = omega arith;
+          place = omega arith;
+          free = λ z. absurd (omega (arith, z));
+          program = λ z. known;
+          parent = parent;
+          core = omega arith;
+          inside = λ z. absurd (omega (arith, z));
+          start = λ z. refl;
+          unneeded = λ z. refl;
+          waits = λ z. absurd (omega (arith, z));
+          needs = λ i j. omega arith;
+          event = λ i j. omega arith;
+          time = λ i j. refl;
+          request = λ i j. refl;
+          passes = λ z. absurd (omega (arith, z));
+        });
+        queued = λ q l. no-queue q l ∙ sym (one-other 9 q (λ z. omega (arith, z, l)));
+        runs = was .runs ∙ ap (λ (x : ℕ). one x Running) was-free ∙ one-other Free Running (λ z. omega (arith, z)) ∙ sym (one-other Hand Running (λ z. omega (arith, z)));
+        idle = dropped-same (s .idle) k ∙ sym (one-other Hand Free (λ z. omega (arith, z)));
+        checks = λ z. absurd (omega (arith, z));
+        ends = λ z. absurd (omega (arith, z));
+      })
+
+  rank : ℕ → ℕ
+  rank y = cond (eqb y k) (suc (g .ranked .rank p)) (g .ranked .rank y)
+
+  rank-other : (y : ℕ) → y ≢ k → rank y ≡ g .ranked .rank y
+  unfolding rank
+  rank-other y d = rw (ne-eqb y k d)
+
+  rank-same : rank k ≡ suc (g .ranked .rank p)
+  unfolding rank
+  rank-same = rw (eq-eqb k k refl)
+
+  above : (y : ℕ) → y ≤ 24 → taskAt made y .parent ≢ 0 → rank (taskAt made y .parent) < rank y
+  above y b n =
+      ⊎-elim
+      (λ c. rw (c .1, same) (omega (arith, rank-same, rank-other p apart)))
+      (λ c. let z = other y (c .1) in
+      rw z (omega (arith, g .ranked .above y b (λ i. n (ap (λ (t : Task). t .parent) z ∙ i)), rank-other y (c .1), rank-other (taskAt s y .parent) (not-parent y b))))
+      (tested y k)
+
+  links : (y : ℕ) → 1 ≤ y → y ≤ 24 → children (set (s .tasks) k fresh) y ≡ one (placeOf made (k ∷ h) y) InLink + one y p
+  links y a b =
+      let c = sum-set (λ t. one (t .parent) y) (s .tasks) k fresh noTask (omega (arith, g .sizes .tasks)) in
+      let d = one-other (taskAt s k .parent) y (λ z. omega (arith, z, zeros, a)) in
+      let e = one-other y 0 (λ z. omega (arith, z, a)) in
+      let f = one-sym p y in
+      ⊎-elim
+      (λ z. rw (z .1, held-place made h k) (omega (arith, rw (z .1) at c, rw (z .1) at d, rw (z .1) at f, childless, one-other Hand InLink (λ z. omega (arith, z)))))
+      (λ z. rw (place-other y (z .1)) (omega (arith, c, d, e, f, g .links y a b)))
+      (tested y k)
+
+  make : Shape made (k ∷ h) p
+  make =
+      change s k (set (s .tasks) k fresh) (s .running) (dropping (s .idle) k) (s .pools) (s .queues) g (record {
+        some = some;
+        low = low;
+        own = made-own;
+        owner = λ j a b m z. absurd (g .requests j a b .owned m (ap (placeOf s h) z ∙ was-free));
+        blocks = other;
+        hands = λ y d. past-hand k y h d;
+        queues = λ q y d. refl;
+        runs = λ y a d. refl;
+        idle = λ y d. dropped-other (s .idle) k y d;
+        long = length-set (s .tasks) k fresh ∙ g .sizes .tasks;
+        nine = g .sizes .queues;
+        four = g .sizes .pools;
+        running = g .blank .running;
+        idles = omega (arith, g .blank .idle, dropped-le (s .idle) k);
+        pool = g .blank .pool;
+        core =
+            core-kept k fresh (g .core) (λ level u.
+            holding-none (s .directory) level u fresh (λ z. omega (arith, z)) ∙ sym (holding-none (s .directory) level u (taskAt s k) (λ z. omega (arith, z, zeros))));
+        links = links;
+        ranked = record { rank = rank; above = above };
+        timed =
+            up-same _ (λ a. taskAt s a .time) (queue s timeQueue)
+            (λ y c. ap (λ (t : Task). t .time) (other y (λ z. omega (arith, c, no-queue timeQueue (omega arith), ap (λ (x : ℕ). count x (queue s timeQueue)) z))))
+            ∙ g .timed;
+        channel = refl;
+      })
+
+  pub create : InHand (created s k m p) k h p
+  unfolding created
+  create = record { some = some; low = low; out = not-in s h k (λ z. omega (arith, z, was-free)); shape = make }

@@ -1,0 +1,64 @@
+-- Words: sums, bits, runs, tests, queues.
+pub mod Sums
+pub mod Shape
+pub mod Bits
+pub mod Free
+pub mod Runs
+pub mod Counted
+pub mod Subset
+pub mod Truth
+pub mod Queues
+pub mod Tests
+pub mod Standing
+pub mod Pendings
+-- The law of one changed task block, its cases, and that of one request block.
+pub mod Members
+pub mod Change
+pub mod Put
+pub mod Take
+pub mod Cored
+pub mod Enter
+pub mod Leave
+pub mod Create
+pub mod Freed
+pub mod Unlink
+pub mod Ask
+pub mod Still
+-- Getting ready, and the rules of rest.
+pub mod Cases
+pub mod Made
+pub mod Resting
+pub mod Waits
+pub mod Served
+-- The dispatch, and the calls.
+pub mod Dispatch
+pub mod Newly
+pub mod Calls
+pub mod Signal
+pub mod Given
+pub mod Link
+pub mod Clearing
+pub mod Finish
+pub mod Chains
+pub mod Abort
+pub mod Timer
+pub mod Channel
+pub mod IoDone
+-- Every call.
+pub mod Loaded
+pub mod Keeps
+pub mod Accepted
+pub mod Corollaries
+-- The rules as tests and as records.
+pub mod Directory
+pub mod Blanks
+pub mod TaskRules
+pub mod PlaceRules
+pub mod RequestRules
+pub mod CoreRules
+pub mod RestRules
+pub mod Pointers
+pub mod FromRules
+pub mod ToRules
+-- Demand 3.
+pub mod Steps

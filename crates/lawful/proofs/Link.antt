@@ -1,0 +1,141 @@
+-- A block in hand is parked where no queue is: in LINK, in CHECK, as ending. And LINK: the caller is parked as the child's parent, so that it is excused no
+-- more.
+use mathlib.Core.Path.{_≡_, refl, sym, ap, _∙_}
+use mathlib.Core.Logic.{_≢_}
+use mathlib.Core.List.{List, [], _∷_}
+use Prim.Native.Nat.{ℕ, _+_, _≤_, _<_}
+use native.Mathlib.Omega.{arith}
+use lib.Seq.{getD-set-other}
+use Rattle.threads.specs.Threads.{count}
+use Rattle.words.specs.Words.{least}
+use Rattle.tables.specs.declared.Task.{Task}
+use Rattle.tables.specs.State.{State, eventQueue, timeQueue, coreQueue, taskAt, queue, levelOf, unitsOf, withRunning}
+use Rattle.tables.specs.Blocks.{Free, Running, InLink, InCheck, Ending, noTask}
+use Rattle.calls.specs.declared.Call.{Call}
+use Rattle.meaning.specs.Ready.{madeReady}
+use Rattle.meaning.specs.Services.{stopped, created, link}
+use Rattle.meaning.specs.Rules.{queueFor}
+use Rattle.lawful.specs.Shape.{one, bit, Fields, Pending, Shape, InHand}
+use Rattle.lawful.specs.Resting.{Rest, Lawful, Settled}
+use Rattle.lawful.proofs.Shape.{one-same, one-other}
+use Rattle.lawful.proofs.Put.{block, putting, put}
+use Rattle.lawful.proofs.Queues.{up-same}
+use Rattle.lawful.proofs.Enter.{hand-stands, hand-count, hand-runs}
+use Rattle.lawful.proofs.Made.{made-ready, plain-fields}
+use Rattle.lawful.proofs.Leave.{stop}
+use Rattle.lawful.proofs.Members.{runs-place, runs-stands, queue-place}
+use Rattle.lawful.proofs.Free.{least-in}
+use Rattle.lawful.proofs.Resting.{rest-beside, rest-made}
+use Rattle.lawful.proofs.Calls.{settled, new, new-rest, rest-stopped}
+
+-- ---- Parking.
+module _ {s : State} {k : ℕ} {h : List ℕ} {e : ℕ} (i : InHand s k h e) (p w e′ : ℕ) (kinds : (6 ≤ p) × (p ≤ 8))
+    (f : Fields (s .directory) p (block s k p 0 0 0 w)) where
+  pub park : (p ≡ InCheck → Pending (s .requests) k w) → (p ≡ Ending → (r : ℕ) × Pending (s .requests) k r)
+      → one p InLink + one k e′ ≡ one k e → ((y : ℕ) → 1 ≤ y → y ≢ k → one y e′ ≡ one y e)
+      → Shape (putting s k p 0 0 0 w (s .queues) (s .running)) h e′
+  park checks ends links others =
+      put s k p 0 0 0 w (i .shape) (record {
+        some = i .some;
+        low = i .low;
+        out = i .out;
+        used = omega (arith, kinds);
+        fields = f;
+        nine = i .shape .sizes .queues;
+        others = λ q y d. refl;
+        own = λ q l. hand-count i q l ∙ sym (parked q l);
+        bound = i .shape .blank .running;
+        runs = hand-runs i ∙ sym (one-other p Running (λ z. omega (arith, z, kinds)));
+        run-others = λ y a d. refl;
+        checks = checks;
+        ends = ends;
+        links = links;
+        link-others = others;
+        timed =
+            up-same _ (λ a. taskAt s a .time) (queue s timeQueue)
+            (λ y c. ap (λ (x : Task). x .time)
+            (getD-set-other (s .tasks) k y _ noTask (λ z. omega (arith, c, hand-count i timeQueue (omega arith), ap (λ (x : ℕ). count x (queue s timeQueue)) z))))
+            ∙ i .shape .timed;
+        channel = refl;
+      })
+    where
+      parked : (q : ℕ) → q < 9 → one (queueFor p (levelOf s k)) q ≡ 0
+      parked q l = one-other _ q (λ z. let b = queue-place p (levelOf s k) q z l in omega (arith, b, kinds))
+
+  pub park-rest : {m : List ℕ} → Rest s m → Rest (putting s k p 0 0 0 w (s .queues) (s .running)) m
+  park-rest r =
+      rest-beside {s = s} {k = k} (record {
+        directory = refl;
+        on = refl;
+        channel = refl;
+        tasks = λ y d. getD-set-other (s .tasks) k y _ noTask d;
+        pools = λ level lo hi. refl;
+        event = λ y c. (c, λ z. omega (arith, c, hand-count i eventQueue (omega arith), ap (λ (x : ℕ). count x (queue s eventQueue)) z));
+        core = λ level lo hi. refl;
+        out = λ level lo hi. hand-count i (coreQueue level) (omega arith);
+        requested = refl;
+      }) r
+
+-- ---- LINK.
+module _ {s : State} (g : Lawful s) (m : ℕ) (known : m < s .directory .modules) (some : s .idle ≢ 0) (n : s .running ≢ 0) where
+  abbrev k : ℕ
+  k = least (s .idle)
+
+  -- the caller is not the block that is free
+  caller-apart : s .running ≢ k
+  caller-apart z =
+      let b = g .shape .blank in
+      let r = runs-stands (g .shape) n in
+      omega (
+        arith,
+        r .idle,
+        ap (λ (x : ℕ). one x Free) (runs-place (g .shape) n),
+        one-other Running Free (λ z. omega (arith, z)),
+        least-in (s .idle) 25 (omega arith) (b .idle) some (b .idle-none),
+        ap (bit (s .idle)) z,
+      )
+
+  abbrev child : State
+  child = created s k m (s .running)
+
+  child-hand : InHand child k [] (s .running)
+  child-hand = new g m known some (s .running) (g .shape .blank .running) caller-apart
+
+  caller-hand : InHand (withRunning child 0) (s .running) (k ∷ []) (s .running)
+  unfolding created
+  caller-hand = stop (child-hand .shape) n
+
+  caller-needs : 1 ≤ unitsOf (withRunning child 0) (s .running) → taskAt (withRunning child 0) (s .running) .core ≡ 0 → ⊥
+  unfolding created
+  caller-needs =
+      let w = runs-stands (child-hand .shape) n in
+      λ a b. w .fields .needs a b .0 (runs-place (child-hand .shape) n)
+
+  linked : InHand (stopped child InLink) k [] 0
+  unfolding stopped created
+  linked =
+      record {
+        some = child-hand .some;
+        low = child-hand .low;
+        out = child-hand .out;
+        shape =
+            park caller-hand InLink 0 0 (omega arith)
+            (plain-fields (hand-stands caller-hand .fields) (omega arith) (omega arith) (λ z. omega (arith, z)) (λ z. omega (arith, z)) caller-needs)
+            (λ z. absurd (omega (arith, z))) (λ z. absurd (omega (arith, z)))
+            (omega (arith, one-same InLink InLink refl, one-other (s .running) 0 n, one-same (s .running) (s .running) refl))
+            (λ y a d. one-other y 0 (λ z. omega (arith, z, a)) ∙ sym (one-other y (s .running) d));
+      }
+
+  linked-rest : Rest (stopped child InLink) []
+  unfolding stopped created
+  linked-rest =
+      park-rest caller-hand InLink 0 0 (omega arith)
+      (plain-fields (hand-stands caller-hand .fields) (omega arith) (omega arith) (λ z. omega (arith, z)) (λ z. omega (arith, z)) caller-needs)
+      (rest-stopped child 0 (new-rest g m known some (s .running) (g .shape .blank .running) caller-apart))
+
+  pub link-settled : Settled (madeReady (stopped child InLink) k)
+  link-settled = let d = made-ready linked in settled (d .shape) (rest-made linked d linked-rest)
+
+pub link-keeps : {s : State} (c : Call) → Lawful s → c .number < s .directory .modules → s .idle ≢ 0 → s .running ≢ 0 → Settled (link s c .state)
+unfolding link
+link-keeps c g known some n = link-settled g (c .number) known some n

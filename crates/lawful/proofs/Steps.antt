@@ -1,0 +1,102 @@
+-- Demand 3: whatever the tables and the call are, a step leaves tables that pass the rules where it was given such; and so all tables that are reached
+-- from an image that loads pass them. The rules as tests are the rules as records, and each accepted call keeps those.
+use mathlib.Core.Bool.{true}
+use mathlib.Core.Path.{_≡_, refl, sym, ap, _∙_}
+use mathlib.Core.Logic.{⊎-elim}
+use mathlib.Core.List.{List}
+use Prim.Native.Nat.{ℕ}
+use lib.ListN.{length, length-map}
+use borrow.Author.Tests.{eq-eqb}
+use Rattle.threads.specs.declared.Threads.{Threads}
+use Rattle.threads.specs.Threads.{queuesOf, threaded}
+use Rattle.threads.proofs.Lists.{tested}
+use Rattle.threads.proofs.Read.{read-back, sound}
+use Rattle.words.specs.Words.{each-holds}
+use Rattle.words.specs.Rows.{firstOf}
+use Rattle.image.specs.Answer.{refusalOf}
+use Rattle.image.specs.Load.{directoryOf, loadOf}
+use Rattle.image.proofs.Loads.{good, load-accepted, check-is-load}
+use Rattle.tables.specs.declared.Tables.{Tables}
+use Rattle.tables.specs.State.{State, read, tabled}
+use Rattle.meaning.specs.Refusals.{refusals}
+use Rattle.meaning.specs.Rules.{directoryPasses, pointersSound, stateRules, rulesHold}
+use Rattle.meaning.specs.Step.{refused, accepted, stepOf, tablesOf}
+use Rattle.lawful.specs.Resting.{Lawful}
+use Rattle.lawful.specs.Tables.{Typed, LawfulTables, Reached, load, step}
+use Rattle.lawful.proofs.Truth.{both, and-of}
+use Rattle.lawful.proofs.Pointers.{sound-of, of-sound}
+use Rattle.lawful.proofs.Corollaries.{shape-apart}
+use Rattle.lawful.proofs.Directory.{passing}
+use Rattle.lawful.proofs.FromRules.{rules-lawful}
+use Rattle.lawful.proofs.ToRules.{lawful-rules}
+use Rattle.lawful.proofs.Loaded.{load-lawful}
+use Rattle.lawful.proofs.Accepted.{accepts}
+use Rattle.lawful.proofs.Keeps.{keeps}
+
+-- ---- The test of the rules, and lawful tables.
+
+nine-queues : (t : Threads) → length (t .first) ≡ 9 → length (queuesOf t) ≡ 9
+unfolding queuesOf
+nine-queues t e = length-map (t .first) _ ∙ e
+
+pub rules-tables : (t : Tables) → Typed t → rulesHold t ≡ true → LawfulTables t
+unfolding rulesHold
+rules-tables t y e =
+    let b = both (pointersSound (t .threads)) (each-holds (stateRules (read t))) e in
+    let n = nine-queues (t .threads) (y .queues) in
+    let p = sound-of (t .threads) n (b .0) in
+    record {
+      pointers = p;
+      state = rules-lawful (read t) (record { tasks = y .tasks; requests = y .requests; pools = y .pools; queues = n }) (y .low) (p .apart) (b .1);
+    }
+
+pub tables-rules : (t : Tables) → LawfulTables t → rulesHold t ≡ true
+unfolding rulesHold
+tables-rules t g = and-of _ _ (of-sound (t .threads) (g .pointers)) (lawful-rules (g .state))
+
+-- ---- A lawful state as tables, and back.
+
+pub read-tabled : {s : State} → Lawful s → read (tabled s) ≡ s
+read-tabled {s} g =
+    ap (λ (l : List (List ℕ)). record {
+      directory = s .directory;
+      clock = s .clock;
+      on = s .on;
+      running = s .running;
+      channel = s .channel;
+      idle = s .idle;
+      spare = s .spare;
+      pools = s .pools;
+      tasks = s .tasks;
+      requests = s .requests;
+      queues = l;
+    }) (read-back (s .queues) (shape-apart (g .shape)))
+
+pub tabled-lawful : {s : State} → Lawful s → LawfulTables (tabled s)
+tabled-lawful {s} g =
+    record { pointers = sound (s .queues) (shape-apart (g .shape)) (threaded (s .queues)) refl .0; state = rw (read-tabled g) g }
+
+-- ---- One step.
+
+pub step-lawful : (t : Tables) (bytes : List ℕ) → LawfulTables t → LawfulTables (stepOf t bytes .tables)
+unfolding stepOf accepted refused
+step-lawful t bytes g =
+    ⊎-elim (λ z. rw (z .0) (tabled-lawful (keeps (g .state) (accepts t bytes (z .1) (g .state))))) (λ z. rw (z .0) g) (tested (firstOf (refusals t bytes)) 0)
+
+pub step-keeps : (t : Tables) (bytes : List ℕ) → Typed t → rulesHold t ≡ true → rulesHold (stepOf t bytes .tables) ≡ true
+step-keeps t bytes y e = tables-rules _ (step-lawful t bytes (rules-tables t y e))
+
+-- ---- From an image that loads on.
+
+loads-lawful : (image : List ℕ) → refusalOf (loadOf image .outcome) ≡ 0 → LawfulTables (tablesOf image)
+unfolding tablesOf directoryPasses
+loads-lawful image e =
+    let none = sym (check-is-load image) ∙ e in
+    rw (eq-eqb _ _ e, load-accepted image none) (tabled-lawful (load-lawful (directoryOf image) (passing (directoryOf image) (eq-eqb _ 0 (good image none .sound)))))
+
+pub reached-lawful : (image : List ℕ) {t : Tables} → Reached image t → LawfulTables t
+reached-lawful image (load e) = loads-lawful image e
+reached-lawful image (step {t} bytes r) = step-lawful t bytes (reached-lawful image r)
+
+pub reached-rules : (image : List ℕ) {t : Tables} → Reached image t → rulesHold t ≡ true
+reached-rules image r = tables-rules _ (reached-lawful image r)

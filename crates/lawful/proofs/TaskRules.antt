@@ -1,0 +1,134 @@
+-- The tests of one task block, and its `Fields`: each test is one field, and back.
+use mathlib.Core.Bool.{Bool, true, false, not, _&&_, _||_, true≢false}
+use mathlib.Core.Path.{_≡_, refl, sym, ap, _∙_}
+use mathlib.Core.Logic.{_≢_}
+use Prim.Native.Nat.{ℕ, _+_, _≤_, _<_}
+use native.Mathlib.Omega.{arith}
+use lib.Bits.{bitAnd}
+use lib.Dec.{eqb, leb, ltb}
+use borrow.Author.Tests.{eqb-true, eq-eqb, leb-true, le-leb, ltb-true, lt-ltb}
+use Rattle.words.specs.Words.{_implies_, size}
+use Rattle.tables.specs.Blocks.{Free, InCore, InEvent, InTime, InCheck}
+use Rattle.tables.specs.State.{State, taskAt, unitsOf}
+use Rattle.meaning.specs.Ready.{needsCore}
+use Rattle.meaning.specs.Rules.{taskInRange, blankTask, clearTask}
+use Rattle.lawful.specs.Shape.{Fields}
+use Rattle.lawful.proofs.Truth.{both, and-of, implied, of-implied, not-eq, unlike, one-of-three}
+use Rattle.lawful.proofs.Cases.{needs, needs-true}
+use Rattle.lawful.proofs.Blanks.{taskSum, task-blank, of-task-blank}
+
+-- "core waiters still need core, and besides them only event and time waiters may", of one block
+abbrev pub neededAt : State → ℕ → Bool
+neededAt s k =
+    let p = taskAt s k .place in
+    (eqb p InCore implies needsCore s k) && ((not (eqb p Free) && needsCore s k) implies (eqb p InCore || eqb p InEvent || eqb p InTime))
+
+-- "event waiters pass 13 and 14", of one block
+pub record Passes (s : State) (k : ℕ) : Type 0 where
+  pub events : bitAnd (taskAt s k .events) (s .directory .defined) ≡ taskAt s k .events
+  pub some : 1 ≤ taskAt s k .count
+  pub most : taskAt s k .count ≤ size (taskAt s k .events)
+
+module _ (s : State) (k : ℕ) (r : taskInRange (s .directory .modules) (unitsOf s k) (taskAt s k) ≡ true) where
+  pub in-range : (taskAt s k .place ≤ 8) × (taskAt s k .parent ≤ 24) × (taskAt s k .core ≤ 2) × (taskAt s k .place ≢ Free → taskAt s k .program < s .directory .modules)
+      × (taskAt s k .core ≡ 1 → taskAt s k .start + unitsOf s k ≤ 64) × (taskAt s k .request ≤ 16)
+  in-range =
+      let t = taskAt s k in
+      let a = both _ _ r in
+      let b = both _ _ (a .0) in
+      let c = both _ _ (b .0) in
+      let d = both _ _ (c .0) in
+      let e = both _ _ (d .0) in (
+        leb-true _ _ (e .0),
+        leb-true _ _ (e .1),
+        leb-true _ _ (d .1),
+        λ z. ltb-true _ _ (implied (not (eqb (t .place) Free)) (ltb (t .program) (s .directory .modules)) (b .1) (not-eq _ _ z)),
+        λ z. leb-true _ _ (implied (eqb (t .core) 1) (leb (t .start + unitsOf s k) 64) (a .1) (eq-eqb _ _ z)),
+        leb-true _ _ (c .1),
+      )
+
+module _ (s : State) (k : ℕ) (r : taskInRange (s .directory .modules) (unitsOf s k) (taskAt s k) ≡ true) (c : clearTask (unitsOf s k) (taskAt s k) ≡ true) (n : neededAt s k ≡ true)
+    (v : taskAt s k .place ≡ InEvent → Passes s k) where
+  -- a task that still needs core is in a place where it may
+  only : 1 ≤ unitsOf s k → taskAt s k .core ≡ 0 → (q : ℕ) → q ≢ 0 → (eqb q InCore || eqb q InEvent || eqb q InTime) ≡ false → taskAt s k .place ≢ q
+  only x y q d f z =
+      let p = taskAt s k .place in
+      let m = both (eqb p InCore implies needsCore s k) ((not (eqb p Free) && needsCore s k) implies (eqb p InCore || eqb p InEvent || eqb p InTime)) n in
+      let w = implied (not (eqb p Free) && needsCore s k) (eqb p InCore || eqb p InEvent || eqb p InTime) (m .1)
+      (and-of _ _ (not-eq p Free (λ i. d (sym z ∙ i))) (needs s k (λ i. omega (arith, x, i)) y)) in
+      true≢false (sym w ∙ ap (λ (x : ℕ). eqb x InCore || eqb x InEvent || eqb x InTime) z ∙ f)
+
+  pub fields-of : Fields (s .directory) (taskAt s k .place) (taskAt s k)
+  fields-of =
+      let t = taskAt s k in
+      let i = in-range s k r in
+      let a = both _ _ c in
+      let b = both _ _ (a .0) in
+      let d = both _ _ (b .0) in
+      let e = both _ _ (d .0) in
+      let f = both _ _ (e .0) in
+      let m = both (eqb (t .place) InCore implies needsCore s k) _ n in
+      let w : taskAt s k .place ≢ InEvent → (eqb (taskAt s k .count) 0 ≡ true) × (eqb (taskAt s k .events) 0 ≡ true) = λ z. both (eqb (t .count) 0) (eqb (t .events) 0) (implied (not (eqb (t .place) InEvent)) (eqb (t .count) 0 && eqb (t .events) 0) (d .1) (not-eq _ _ z)) in
+      record {
+        kind = omega (arith, i .0);
+        place = i .0;
+        free = λ z. ap taskSum (task-blank t (implied (eqb (t .place) Free) (blankTask t) (f .0) (eq-eqb _ _ z)));
+        program = i .3;
+        parent = i .1;
+        core = i .2;
+        inside = i .4;
+        start = λ z. eqb-true (t .start) 0 (implied (not (eqb (t .core) 1)) (eqb (t .start) 0) (e .1) (not-eq _ _ z));
+        unneeded = λ z. eqb-true (t .core) 0 (implied (eqb (unitsOf s k) 0) (eqb (t .core) 0) (f .1) (eq-eqb _ _ z));
+        waits = λ z. needs-true s k (implied (eqb (t .place) InCore) (needsCore s k) (m .0) (eq-eqb _ _ z));
+        needs = λ x y. let o = only x y in (o 1 (λ z. omega (arith, z)) refl, o 2 (λ z. omega (arith, z)) refl, o 6 (λ z. omega (arith, z)) refl, o 7 (λ z. omega (arith, z)) refl, o 8 (λ z. omega (arith, z)) refl);
+        event = λ x y. omega (arith, eqb-true (t .count) 0 (w x .0), eqb-true (t .events) 0 (w x .1));
+        time = λ x y. eqb-true (t .time) 0 (implied (not (eqb (t .place) InTime)) (eqb (t .time) 0) (b .1) (not-eq _ _ x));
+        request = λ x y. eqb-true (t .request) 0 (implied (not (eqb (t .place) InCheck)) (eqb (t .request) 0) (a .1) (not-eq _ _ x));
+        passes = λ z. (v z .events, v z .some, v z .most);
+      }
+
+-- ---- And back.
+
+lowest-three : (p : ℕ) → p ≢ 0 → p ≢ 1 → p ≢ 2 → 3 ≤ p
+lowest-three p a b c = omega arith
+
+highest-five : (p : ℕ) → p ≤ 8 → p ≢ 6 → p ≢ 7 → p ≢ 8 → p ≤ 5
+highest-five p h a b c = omega arith
+
+module _ (s : State) (k : ℕ) (f : Fields (s .directory) (taskAt s k .place) (taskAt s k)) where
+  pub of-range : taskAt s k .request ≤ 16 → taskInRange (s .directory .modules) (unitsOf s k) (taskAt s k) ≡ true
+  of-range q =
+      let t = taskAt s k in
+      and-of _ _ (and-of _ _ (and-of _ _ (and-of _ _ (and-of _ _ (le-leb (t .place) 8 (f .place)) (le-leb (t .parent) 24 (f .parent))) (le-leb (t .core) 2 (f .core))) (le-leb (t .request) 16 q))
+      (of-implied (not (eqb (t .place) Free)) (ltb (t .program) (s .directory .modules)) (λ z. lt-ltb _ _ (f .program (unlike _ _ z)))))
+      (of-implied (eqb (t .core) 1) (leb (t .start + unitsOf s k) 64) (λ z. le-leb _ _ (f .inside (eqb-true _ _ z))))
+
+  nine : taskAt s k .place ≢ 9
+  nine z = omega (arith, f .place, z)
+
+  pub of-clear : clearTask (unitsOf s k) (taskAt s k) ≡ true
+  of-clear =
+      let t = taskAt s k in
+      and-of _ _ (and-of _ _ (and-of _ _ (and-of _ _ (and-of _ _
+      (of-implied (eqb (t .place) Free) _ (λ z. of-task-blank t (f .free (eqb-true _ _ z))))
+      (of-implied (eqb (unitsOf s k) 0) (eqb (t .core) 0) (λ z. eq-eqb _ 0 (f .unneeded (eqb-true _ _ z)))))
+      (of-implied (not (eqb (t .core) 1)) (eqb (t .start) 0) (λ z. eq-eqb _ 0 (f .start (unlike _ _ z)))))
+      (of-implied (not (eqb (t .place) InEvent)) (eqb (t .count) 0 && eqb (t .events) 0)
+      (λ z. let w = f .event (unlike _ _ z) nine in and-of _ _ (eq-eqb (t .count) 0 (omega (arith, w))) (eq-eqb (t .events) 0 (omega (arith, w))))))
+      (of-implied (not (eqb (t .place) InTime)) (eqb (t .time) 0) (λ z. eq-eqb _ 0 (f .time (unlike _ _ z) nine))))
+      (of-implied (not (eqb (t .place) InCheck)) (eqb (t .request) 0) (λ z. eq-eqb _ 0 (f .request (unlike _ _ z) nine)))
+
+  -- by the places that are left
+  may : (p : ℕ) → p ≤ 8 → p ≢ Free → (p ≢ 1) × (p ≢ 2) × (p ≢ 6) × (p ≢ 7) × (p ≢ 8) → (eqb p InCore || eqb p InEvent || eqb p InTime) ≡ true
+  may p b a n =
+      let low : 3 ≤ p = lowest-three p a (n .0) (n .1) in
+      let high : p ≤ 5 = highest-five p b (n .2) (n .3) (n .4) in
+      one-of-three p InCore InEvent InTime (λ x y. omega (arith, low, high, x, y))
+
+  pub of-needed : neededAt s k ≡ true
+  of-needed =
+      let p = taskAt s k .place in
+      and-of _ _
+      (of-implied (eqb p InCore) (needsCore s k) (λ z. let w = f .waits (eqb-true _ _ z) in needs s k (λ i. omega (arith, i, w .0)) (w .1)))
+      (of-implied (not (eqb p Free) && needsCore s k) (eqb p InCore || eqb p InEvent || eqb p InTime)
+      (λ z. let w = both (not (eqb p Free)) (needsCore s k) z in let c = needs-true s k (w .1) in may p (f .place) (unlike _ _ (w .0)) (f .needs (c .0) (c .1))))

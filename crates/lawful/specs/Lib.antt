@@ -1,0 +1,4 @@
+pub mod Shape
+pub mod Resting
+pub mod Accepts
+pub mod Tables

@@ -1,0 +1,167 @@
+-- The table rules of document 01 as records, over a state in which some task blocks are in hand: in no place, on the way from one to another.
+-- These are the rules that hold between any two small changes; those that hold at rest alone are in Resting.
+use mathlib.Core.Bool.{true, false, cond, _&&_}
+use mathlib.Core.Path.{_≡_}
+use mathlib.Core.Logic.{_≢_}
+use mathlib.Core.List.{List, [], _∷_}
+use Prim.Native.Nat.{ℕ, _+_, _/_, _%_, _^_, _≤_, _<_}
+use lib.ListN.{length, getD}
+use lib.Bits.{bitAnd}
+use lib.Dec.{eqb}
+use Rattle.threads.specs.Threads.{count}
+use Rattle.words.specs.Words.{_among_, upBy, size}
+use Rattle.image.specs.declared.Entry.{Entry}
+use Rattle.image.specs.declared.Directory.{Directory}
+use Rattle.image.specs.Directory.{entryAt}
+use Rattle.tables.specs.declared.Task.{Task}
+use Rattle.tables.specs.declared.Request.{Request}
+use Rattle.tables.specs.Blocks.{Free, Running, Ready, InCore, InEvent, InTime, InLink, InCheck, Ending, Queued, OnChannel, noTask, noRequest}
+use Rattle.tables.specs.State.{State, timeQueue, channelQueue, node, taskAt, requestAt, poolAt, queue, levelOf}
+use Rattle.pools.specs.Pools.{run}
+use Rattle.meaning.specs.Rules.{directoryPasses, queueFor}
+use Rattle.meaning.specs.Channel.{channelLevel}
+
+-- ---- Words. 'Is' is a number, so that places, sets and links are sums of numbers.
+
+-- 1 where the two numbers are the same, else 0
+unfoldable pub one : ℕ → ℕ → ℕ
+one a b = cond (eqb a b) 1 0
+
+-- bit u of a word
+abbrev pub bit : ℕ → ℕ → ℕ
+bit w u = w / 2 ^ u % 2
+
+-- the sum of f over a list
+unfoldable pub sum {ℓ} : {A : Type ℓ} → (A → ℕ) → List A → ℕ
+sum f [] = 0
+sum f (a ∷ l) = f a + sum f l
+
+-- the module of a task
+abbrev pub moduleOf : Directory → Task → Entry
+moduleOf d t = entryAt d (t .program)
+
+-- where the block y is: in hand, or where it says
+abbrev pub Hand : ℕ
+Hand = 9
+
+unfoldable pub placeOf : State → List ℕ → ℕ → ℕ
+placeOf s h y = cond (y among h) Hand (taskAt s y .place)
+
+-- ---- One task block: "every field in range", "any field with no meaning in the block's present place, is zero", "core waiters still need core, and
+-- besides them only event and time waiters may", "event waiters pass 13 and 14".
+pub record Fields (d : Directory) (p : ℕ) (t : Task) : Type 0 where
+  pub kind : p ≤ 9
+  pub place : t .place ≤ 8
+  pub free : p ≡ Free → t .place + t .program + t .parent + t .core + t .start + t .count + t .events + t .time + t .request ≡ 0
+  pub program : p ≢ Free → t .program < d .modules
+  pub parent : t .parent ≤ 24
+  pub core : t .core ≤ 2
+  pub inside : t .core ≡ 1 → t .start + moduleOf d t .units ≤ 64
+  pub start : t .core ≢ 1 → t .start ≡ 0
+  pub unneeded : moduleOf d t .units ≡ 0 → t .core ≡ 0
+  pub waits : p ≡ InCore → (1 ≤ moduleOf d t .units) × (t .core ≡ 0)
+  pub needs : 1 ≤ moduleOf d t .units → t .core ≡ 0 → (p ≢ Running) × (p ≢ Ready) × (p ≢ InLink) × (p ≢ InCheck) × (p ≢ Ending)
+  pub event : p ≢ InEvent → p ≢ Hand → t .count + t .events ≡ 0
+  pub time : p ≢ InTime → p ≢ Hand → t .time ≡ 0
+  pub request : p ≢ InCheck → p ≢ Hand → t .request ≡ 0
+  pub passes : p ≡ InEvent → (bitAnd (t .events) (d .defined) ≡ t .events) × (1 ≤ t .count) × (t .count ≤ size (t .events))
+
+-- the request r is the task y's, and "queued or on the channel"
+pub record Pending (l : List Request) (y r : ℕ) : Type 0 where
+  pub some : 1 ≤ r
+  pub low : r ≤ 16
+  pub own : getD l r noRequest .owner ≡ y
+  pub first : 1 ≤ getD l r noRequest .place
+  pub last : getD l r noRequest .place ≤ 2
+
+-- "each task .. block is in exactly one place": the block y in the place p, in the queue of that place and in no other, running or not, free or not.
+-- "CHECK waits for an own pending request", "an ending task has one"
+pub record Stands (s : State) (p y : ℕ) : Type 0 where
+  pub fields : Fields (s .directory) p (taskAt s y)
+  pub queued : (q : ℕ) → q < 9 → count y (queue s q) ≡ one (queueFor p (levelOf s y)) q
+  pub runs : one (s .running) y ≡ one p Running
+  pub idle : bit (s .idle) y ≡ one p Free
+  pub checks : p ≡ InCheck → Pending (s .requests) y (taskAt s y .request)
+  pub ends : p ≡ Ending → (r : ℕ) × Pending (s .requests) y r
+
+-- ---- One request block: "A request block is free, queued, on the channel or done", "a used request's owner is a used task".
+pub record Carried (s : State) (h : List ℕ) (r : ℕ) : Type 0 where
+  pub kind : requestAt s r .place ≤ 3
+  pub free : requestAt s r .place ≡ 0 → requestAt s r .owner + requestAt s r .device + requestAt s r .command + requestAt s r .bytes ≡ 0
+  pub used : 1 ≤ requestAt s r .place → (1 ≤ requestAt s r .owner) × (requestAt s r .owner ≤ 24) × (requestAt s r .device ≤ 249) × (13 ≤ requestAt s r .command) × (requestAt s r .command ≤ 14) × (1 ≤ requestAt s r .bytes)
+  pub owned : 1 ≤ requestAt s r .place → placeOf s h (requestAt s r .owner) ≢ Free
+  pub others : (q : ℕ) → q < 8 → count (node r) (queue s q) ≡ 0
+  pub queued : count (node r) (queue s channelQueue) ≡ one (requestAt s r .place) Queued
+  pub runs : one (s .channel) r ≡ one (requestAt s r .place) OnChannel
+  pub spare : bit (s .spare) r ≡ one (requestAt s r .place) 0
+
+-- ---- Core, unit by unit: "Core runs of a level are disjoint and with its free units make 64". A unit of a level is granted where one task's run has
+-- it, and free where none has.
+
+-- how often the task's run has unit u of the level: 1 or 0
+unfoldable pub holding : Directory → ℕ → ℕ → Task → ℕ
+holding d level u t = cond (eqb (t .core) 1 && eqb (moduleOf d t .level) level) (bit (run (t .start) (moduleOf d t .units)) u) 0
+
+pub record Core (d : Directory) (l : List Task) (pools : List ℕ) : Type 0 where
+  pub low : (level : ℕ) → getD pools level 0 < 2 ^ 64
+  pub units : (level u : ℕ) → 1 ≤ level → level ≤ 3 → sum (holding d level u) l ≡ bit (getD pools level 0) u
+
+-- ---- Links: "a LINK waiter has exactly one child", "LINK parents never form a ring".
+
+abbrev pub children : List Task → ℕ → ℕ
+children l p = sum (λ t. one (t .parent) p) l
+
+-- no ring of parents: each is below its child by some measure
+pub record Ranked (l : List Task) : Type 0 where
+  pub rank : ℕ → ℕ
+  pub above : (y : ℕ) → y ≤ 24 → getD l y noTask .parent ≢ 0 → rank (getD l y noTask .parent) < rank y
+
+-- ---- "the directory passes 4 to 7", and what the rules of the blocks take from it.
+pub record Passing (d : Directory) : Type 0 where
+  pub passes : directoryPasses d ≡ true
+  pub modules : d .modules ≤ 32
+  pub best : (m : ℕ) → m < d .modules → 1 ≤ entryAt d m .level
+  pub worst : (m : ℕ) → m < d .modules → entryAt d m .level ≤ 3
+  pub units : (m : ℕ) → m < d .modules → entryAt d m .units ≤ 64
+
+-- ---- 'Sizes', with slot 0 for no block.
+pub record Sizes (s : State) : Type 0 where
+  pub tasks : length (s .tasks) ≡ 25
+  pub requests : length (s .requests) ≡ 17
+  pub pools : length (s .pools) ≡ 4
+  pub queues : length (s .queues) ≡ 9
+
+-- "Zero names no block": block 0 is zero. "The free blocks are sets", of blocks. "events on are defined"
+pub record Blank (s : State) : Type 0 where
+  pub block : taskAt s 0 ≡ noTask
+  pub request : requestAt s 0 ≡ noRequest
+  pub pool : poolAt s 0 ≡ 0
+  pub idle : s .idle < 2 ^ 25
+  pub idle-none : bit (s .idle) 0 ≡ 0
+  pub spare : s .spare < 2 ^ 17
+  pub spare-none : bit (s .spare) 0 ≡ 0
+  pub running : s .running ≤ 24
+  pub channel : s .channel ≤ 16
+  pub on : (v : ℕ) → bit (s .on) v ≤ bit (s .directory .defined) v
+
+-- ---- All of them: the blocks h are in hand, and e (0: none) has a child though it is not in LINK. "the time queue by time, the channel queue by level"
+pub record Shape (s : State) (h : List ℕ) (e : ℕ) : Type 0 where
+  pub sizes : Sizes s
+  pub directory : Passing (s .directory)
+  pub blank : Blank s
+  pub tasks : (y : ℕ) → 1 ≤ y → y ≤ 24 → Stands s (placeOf s h y) y
+  pub requests : (r : ℕ) → 1 ≤ r → r ≤ 16 → Carried s h r
+  pub none : (q : ℕ) → count 0 (queue s q) ≡ 0
+  pub beyond : (q y : ℕ) → 40 < y → count y (queue s q) ≡ 0
+  pub core : Core (s .directory) (s .tasks) (s .pools)
+  pub links : (p : ℕ) → 1 ≤ p → p ≤ 24 → children (s .tasks) p ≡ one (placeOf s h p) InLink + one p e
+  pub ranked : Ranked (s .tasks)
+  pub timed : upBy (λ a. taskAt s a .time) (queue s timeQueue) ≡ true
+  pub levelled : upBy (channelLevel s) (queue s channelQueue) ≡ true
+
+-- the block k is in hand, besides h
+pub record InHand (s : State) (k : ℕ) (h : List ℕ) (e : ℕ) : Type 0 where
+  pub some : 1 ≤ k
+  pub low : k ≤ 24
+  pub out : k among h ≡ false
+  pub shape : Shape s (k ∷ h) e
