@@ -1,3 +1,4 @@
+-- `along` stays within the array by its own tests, and ends because it counts down.
 use borrow.Author.Needs.{needs}
 use Prim.Native.Nat.{_≤_}
 use Rattle.threads.specs.Threads.{BLOCKS}
@@ -10,51 +11,39 @@ Inv-loop from pointers y₀ left₀ t6 y left = left ≤ BLOCKS
 abbrev μ-loop : tie.MeasureT-loop
 μ-loop from pointers y₀ left₀ t6 y left = left
 
--- src/main.rt:53:5
 loop-holds : tie.Need-loop-holds Inv-loop μ-loop
 loop-holds c = search needs
 
--- src/main.rt:55:13
 returns : tie.Need-returns Inv-loop μ-loop
 returns c = search needs
 
--- src/main.rt:58:13
 returns-2 : tie.Need-returns-2 Inv-loop μ-loop
 returns-2 c = search needs
 
--- src/main.rt:60:23
 slice-aggregate-field : tie.Need-slice-aggregate-field Inv-loop μ-loop
 slice-aggregate-field c = search needs
 
--- src/main.rt:60:29
 cast-field : tie.Need-cast-field Inv-loop μ-loop
 cast-field c = search needs
 
--- src/main.rt:60:9
 field-requires : tie.Need-field-requires Inv-loop μ-loop
 field-requires c κs = search needs
 
--- src/main.rt:61:22
 cast-y : tie.Need-cast-y Inv-loop μ-loop
 cast-y c = search needs
 
--- src/main.rt:61:13
 array-read-y : tie.Need-array-read-y Inv-loop μ-loop
 array-read-y c = search needs
 
--- src/main.rt:62:9
 sub-left : tie.Need-sub-left Inv-loop μ-loop
 sub-left c = search needs
 
--- src/main.rt:53:5
 loop-less : tie.Need-loop-less Inv-loop μ-loop
 loop-less c = search needs
 
--- src/main.rt:53:5
 loop-again : tie.Need-loop-again Inv-loop μ-loop
 loop-again c = search needs
 
--- src/main.rt:50:1
 returns-3 : tie.Need-returns-3 Inv-loop μ-loop
 returns-3 c = search needs
 

@@ -1,0 +1,120 @@
+-- Laws of granting core and of getting ready, case by case.
+use mathlib.Core.Bool.{Bool, true, false, cond, _&&_}
+use mathlib.Core.Path.{_≡_, refl, sym, ap, ap₂, _∙_}
+use mathlib.Core.Logic.{⊎-elim}
+use Prim.Native.Nat.{ℕ, zero, _+_, _-_, _/_, _%_, _^_, _≤_, _<_}
+use native.Mathlib.Omega.{arith}
+use native.Mathlib.Nat.{eq-zero-or-pos}
+use lib.Dec.{eqb, ltb}
+use borrow.Author.Tests.{lt-ltb, le-ltb, ltb-false}
+use Rattle.threads.specs.Threads.{counts}
+use Rattle.words.specs.Words.{isEmpty}
+use Rattle.words.proofs.Places.{under-or-from}
+use Rattle.pools.specs.declared.Found.the-variants.{At, Nowhere}
+use Rattle.pools.specs.Pools.{run, freeAt, startOf}
+use Rattle.pools.specs.Runs.{FreeRun}
+use Rattle.pools.specs.Find.{foundOf}
+use Rattle.pools.proofs.Starts.{start-free, found-at, at-start, found-run}
+use Rattle.pools.proofs.Units.{free-inside}
+use Rattle.image.specs.declared.Entry.{Entry}
+use Rattle.image.specs.Directory.{entryAt}
+use Rattle.tables.specs.declared.Task.{Task}
+use Rattle.tables.specs.Blocks.{Ready, InCore, NotGranted, HoldsRun, noTask, withCore}
+use Rattle.tables.specs.State.{State, coreQueue, withPool, withTask, taskAt, poolAt, queue, entryOf, levelOf, unitsOf, joining}
+use Rattle.lawful.proofs.Sums.{field-kept}
+use Rattle.meaning.specs.Ready.{placed, startFor, fits, needsCore, granted, readied, awaitsCore, madeReady}
+use Rattle.scheduler.specs.Core.{seatOf, Granting}
+
+-- ---- The search.
+
+pub nowhere-start : (g n : ℕ) → foundOf g n ≡ Nowhere → 64 ≤ startOf g n
+unfolding foundOf
+nowhere-start g n e = go (ltb (startOf g n) 64) refl e
+  where
+    go : (b : Bool) → ltb (startOf g n) 64 ≡ b → cond (ltb (startOf g n) 64) (At (startOf g n)) Nowhere ≡ Nowhere → 64 ≤ startOf g n
+    go true f h = let z : At (startOf g n) ≡ Nowhere = rw f at h in let y : _≡_ {A = ℕ} 0 1 = cc in absurd (omega arith)
+    go false f h = ltb-false (startOf g n) 64 f
+
+-- a pool with more than all units granted has none free, as the pool with all
+above-all : (g n a : ℕ) → 2 ^ 64 ≤ g → freeAt g n a ≡ freeAt (2 ^ 64 - 1) n a
+unfolding freeAt
+above-all g n a h =
+    let e : 2 ^ 64 - 1 - g ≡ 2 ^ 64 - 1 - (2 ^ 64 - 1) = omega arith in
+    ap (λ (x : ℕ). eqb (x / 2 ^ a % 2 ^ n) (2 ^ n - 1)) e
+
+-- what the search finds is a free run
+start-run : (g n a : ℕ) → a ≡ startOf g n → a < 64 → FreeRun g a n
+start-run g n a e l =
+    ⊎-elim (λ (h : g < 2 ^ 64). found-run g n a h (found-at g n a (sym e) l)) (λ (h : 2 ^ 64 ≤ g). full h) (under-or-from g (2 ^ 64))
+  where
+    free : freeAt g n a ≡ true
+    free = rw e (start-free g n (omega (arith, e)))
+
+    full : 2 ^ 64 ≤ g → FreeRun g a n
+    full h =
+        record {
+          inside = ⊎-elim (λ (z : n ≡ 0). omega arith) (λ (z : 0 < n). free-inside (2 ^ 64 - 1) n a (omega arith) z (sym (above-all g n a h) ∙ free)) (eq-zero-or-pos n);
+          free = free;
+        }
+
+-- a grant leaves the task its module
+pub level-granted : (s : State) (k : ℕ) → levelOf (granted s k) k ≡ levelOf s k
+unfolding granted
+level-granted s k = ap (λ (m : ℕ). entryAt (s .directory) m .level) (field-kept (λ (x : Task). x .program) (s .tasks) k k _ noTask refl)
+
+-- ---- Getting ready, by the entry that the code has in hand
+module _ (s : State) (k : ℕ) {e : Entry} (h : e ≡ entryOf s k) where
+  -- the code's test is the meaning's
+  pub needs-as : {b : Bool} → b ≡ (ltb 0 (e .units) && eqb (taskAt s k .core) NotGranted) → needsCore s k ≡ b
+  unfolding needsCore
+  needs-as f = sym (f ∙ ap (λ (x : Entry). ltb 0 (x .units) && eqb (taskAt s k .core) NotGranted) h)
+
+  -- a seat is the start that the meaning gives
+  pub seat-start : {a : ℕ} → seatOf s (e .level) (e .units) ≡ At a → (a ≡ startFor s k) × (a < 64)
+  unfolding startFor seatOf
+  seat-start {a} f = go (isEmpty (queue s (coreQueue (levelOf s k)))) (rw h at f)
+    where
+      go : (b : Bool) → cond b (foundOf (poolAt s (levelOf s k)) (unitsOf s k)) Nowhere ≡ At a
+          → (a ≡ startOf (poolAt s (levelOf s k)) (unitsOf s k)) × (a < 64)
+      go true g = let f = at-start (poolAt s (levelOf s k)) (unitsOf s k) a g in (sym (f .0), f .1)
+      go false g = let y : _≡_ {A = ℕ} 0 1 = cc in absurd (omega arith)
+
+  pub ready-now : needsCore s k ≡ false → madeReady s k ≡ joining (placed s k Ready) (e .level) k
+  unfolding madeReady readied
+  ready-now n = rw (n, h)
+
+  pub ready-later : needsCore s k ≡ true → seatOf s (e .level) (e .units) ≡ Nowhere → madeReady s k ≡ joining (placed s k InCore) (coreQueue (e .level)) k
+  unfolding madeReady awaitsCore seatOf fits startFor
+  ready-later n f = rw h (go (isEmpty (queue s (coreQueue (levelOf s k)))) refl (rw h at f))
+    where
+      go : (b : Bool) → isEmpty (queue s (coreQueue (levelOf s k))) ≡ b → cond b (foundOf (poolAt s (levelOf s k)) (unitsOf s k)) Nowhere ≡ Nowhere
+          → madeReady s k ≡ joining (placed s k InCore) (coreQueue (levelOf s k)) k
+      go true q g = rw (n, q, le-ltb _ _ (nowhere-start (poolAt s (levelOf s k)) (unitsOf s k) g))
+      go false q g = rw (n, q)
+
+  pub ready-seated : {a : ℕ} → needsCore s k ≡ true → seatOf s (e .level) (e .units) ≡ At a → madeReady s k ≡ joining (placed (granted s k) k Ready) (e .level) k
+  unfolding madeReady readied seatOf fits
+  ready-seated {a} n f = rw h (go (isEmpty (queue s (coreQueue (levelOf s k)))) refl (rw h at f))
+    where
+      go : (b : Bool) → isEmpty (queue s (coreQueue (levelOf s k))) ≡ b → cond b (foundOf (poolAt s (levelOf s k)) (unitsOf s k)) Nowhere ≡ At a
+          → madeReady s k ≡ joining (placed (granted s k) k Ready) (levelOf s k) k
+      go true q g = let i = seat-start f in rw (n, q, lt-ltb (startFor s k) 64 (omega (arith, i)), level-granted s k)
+      go false q g = let y : _≡_ {A = ℕ} 0 1 = cc in absurd (omega arith)
+
+-- ---- Granting.
+module _ (s : State) {k level n a : ℕ} (g : Granting s k level n a) where
+  -- where the task can be given a run, the run is free
+  pub grant-free : FreeRun (poolAt s level) a n
+  unfolding startFor
+  grant-free =
+      start-run (poolAt s level) n a (g .own-start ∙ ap₂ (λ (x y : ℕ). startOf (poolAt s x) y) (sym (g .own-level)) (sym (g .own-units))) (g .start)
+
+  -- the state after a grant, by the numbers that the code has in hand
+  pub granted-as : withPool (withTask s k (withCore (taskAt s k) HoldsRun a)) level (poolAt s level + run a n) ≡ granted s k
+  unfolding granted
+  granted-as = rw (g .own-start, g .own-level, g .own-units)
+
+-- a grant moves no block
+pub granted-out : (s : State) (k y : ℕ) → counts y (s .queues) ≡ 0 → counts y (granted s k .queues) ≡ 0
+unfolding granted
+granted-out s k y e = e
