@@ -1,0 +1,4 @@
+pub mod Some
+pub mod Shown
+pub mod Finishes
+pub mod Aborts
