@@ -1,6 +1,6 @@
 -- What the abort leaves after each of its steps: the task that lost its link can end, alone or beside its parent, which is in LINK; and then the parent
 -- is the one in hand. And what is aborted, step by step.
-use mathlib.Core.Path.{_≡_, refl, ap, _∙_}
+use mathlib.Core.Path.{_≡_, refl, ap}
 use mathlib.Core.Logic.{_≢_, ⊎-elim}
 use mathlib.Core.List.{[], _∷_}
 use Prim.Native.Nat.{ℕ, zero, suc, _-_, _≤_}
@@ -13,7 +13,7 @@ use Rattle.tables.specs.Held.{Shows}
 use Rattle.meaning.specs.Rules.{upward}
 use Rattle.meaning.specs.Finish.{ended, unlinked, aborted}
 use Rattle.lawful.specs.Shape.{InHand}
-use Rattle.lawful.specs.Resting.{Rest, Aborting}
+use Rattle.lawful.specs.Resting.{Aborting}
 use Rattle.lawful.proofs.Finish.{grab, parent-low, parent-links}
 use Rattle.lawful.proofs.Unlink.{unlink-rest}
 use Rattle.lawful.proofs.Abort.{alone, child, abort-next}

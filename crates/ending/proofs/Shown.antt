@@ -1,5 +1,5 @@
 -- One step after another: what the second shows of the tables that the first left, it shows of the state that the first showed.
-use mathlib.Core.Path.{_≡_, ap, _∙_}
+use mathlib.Core.Path.{ap, _∙_}
 use Rattle.tables.specs.declared.Tables.{Tables}
 use Rattle.tables.specs.State.{State, read}
 use Rattle.tables.specs.Held.{Shows}
