@@ -16,16 +16,11 @@ use Rattle.lawful.specs.Shape.{InHand}
 use Rattle.lawful.specs.Resting.{Aborting}
 use Rattle.lawful.proofs.Finish.{grab, parent-low, parent-links}
 use Rattle.lawful.proofs.Unlink.{unlink-rest}
-use Rattle.lawful.proofs.Abort.{alone, child, abort-next}
+use Rattle.lawful.proofs.Abort.{aborted-none, alone, child, abort-next}
 use Rattle.ending.specs.Ending.{Finishing}
 use Rattle.ending.proofs.Shown.{then}
 
 -- ---- The meaning, step by step.
-aborted-nobody : (n : ℕ) (s : State) → aborted n 0 s ≡ s
-unfolding aborted
-aborted-nobody zero s = refl
-aborted-nobody (suc n) s = refl
-
 -- a chain that has a task in hand is not at its end
 pub abort-left : (n : ℕ) {k : ℕ} {s : State} → Aborting n k s → 1 ≤ n
 unfolding upward
@@ -76,7 +71,7 @@ module _ {n k : ℕ} {s : State} (a : Aborting n k s) where
   -- after it the abort is done, or goes on with the parent
   module _ {u : Tables} (w : Shows u (ended (unlinked s k) k)) where
     pub abort-last : p ≡ 0 → Shows u (aborted n k s)
-    abort-last z = rw (aborted-step n a, z, aborted-nobody (n - 1) (ended (unlinked s k) k)) w
+    abort-last z = rw (aborted-step n a, z, aborted-none (n - 1) (ended (unlinked s k) k)) w
 
     pub abort-parent : p ≢ 0 → Aborting (n - 1) p (read u)
     abort-parent z = rw (w .reads) (next n a z)

@@ -32,7 +32,7 @@ use Rattle.lawful.proofs.Finish.{grab, parent-low, parent-links, parent
 use Rattle.lawful.proofs.Calls.{rest-stopped}
 
 -- ---- The abort.
-aborted-none : (n : ℕ) (s : State) → aborted n 0 s ≡ s
+pub aborted-none : (n : ℕ) (s : State) → aborted n 0 s ≡ s
 unfolding aborted
 aborted-none zero s = refl
 aborted-none (suc n) s = refl

@@ -11,6 +11,7 @@ use lib.Dec.{eqb, leb, ltb}
 use borrow.Author.Tests.{not-true, not-false, eqb-true, eqb-false, eq-eqb, leb-false, ltb-false}
 use Rattle.words.specs.Words.{_among_, has, size}
 use Rattle.words.specs.Rows.{Row, _when_, firstOf}
+use Rattle.words.proofs.Places.{under-or-from}
 use Rattle.tables.specs.declared.Request.{Request}
 use Rattle.tables.specs.declared.Tables.{Tables}
 use Rattle.tables.specs.State.{State, requestAt, read}
@@ -23,7 +24,6 @@ use Rattle.meaning.specs.Refusals.{undefined, held, callRows, refusals}
 use Rattle.lawful.specs.Resting.{Lawful}
 use Rattle.lawful.specs.Accepts.{Accepts}
 use Rattle.lawful.proofs.Truth.{both, and-of}
-use Rattle.lawful.proofs.Sums.{le-or}
 
 -- ---- Tests that fail.
 and-fails : (a b : Bool) → (a && b) ≡ false → a ≡ true → b ≡ false
@@ -51,8 +51,8 @@ beyond (a ∷ l) (suc i) h = beyond l i (le-of-suc-le-suc h)
 -- a request block that is used is one of 1 to 16
 used-block : {s : State} → Lawful s → (r : ℕ) → requestAt s r .place ≢ 0 → (1 ≤ r) × (r ≤ 16)
 used-block {s} g r n = (
-  ⊎-elim (λ z. z) (λ z. let i : r ≡ 0 = omega (arith, z) in absurd (n (ap (λ (q : Request). q .place) (ap (requestAt s) i ∙ g .shape .blank .request)))) (le-or 1 r),
-  ⊎-elim (λ z. z) (λ z. absurd (n (ap (λ (q : Request). q .place) (beyond (s .requests) r (omega (arith, z, g .shape .sizes .requests)))))) (le-or r 16),
+  ⊎-elim (λ z. let i : r ≡ 0 = omega (arith, z) in absurd (n (ap (λ (q : Request). q .place) (ap (requestAt s) i ∙ g .shape .blank .request)))) (λ z. z) (under-or-from r 1),
+  ⊎-elim (λ z. absurd (n (ap (λ (q : Request). q .place) (beyond (s .requests) r (omega (arith, z, g .shape .sizes .requests)))))) (λ z. z) (under-or-from 16 r),
 )
 
 module _ (t : Tables) (bytes : List ℕ) (e : firstOf (refusals t bytes) ≡ 0) where

@@ -11,6 +11,7 @@ use lib.Seq.{getD-set-same, getD-set-other}
 use Rattle.threads.specs.Threads.{count}
 use Rattle.threads.proofs.Lists.{tested}
 use Rattle.words.specs.Words.{upBy}
+use Rattle.words.proofs.Changes.{adding-low}
 use Rattle.tables.specs.declared.Request.{Request}
 use Rattle.tables.specs.State.{State, channelQueue, timeQueue, node, state, taskAt, requestAt, queue, levelOf}
 use Rattle.tables.specs.Blocks.{Free, InCheck, Ending, Queued, OnChannel, Done, noRequest}
@@ -20,7 +21,7 @@ use Rattle.lawful.specs.Shape.{one, bit, placeOf, Pending, Carried, Shap
 use Rattle.lawful.proofs.Shape.{one-same, one-other}
 use Rattle.lawful.proofs.Queues.{up-same}
 use Rattle.lawful.proofs.Members.{channel-queued}
-use Rattle.lawful.proofs.Free.{added-same, added-other, added-lt}
+use Rattle.lawful.proofs.Free.{added-same, added-other}
 
 module _ (s : State) (r : ℕ) (x : Request) where
   abbrev pub asking : ℕ → ℕ → List (List ℕ) → State
@@ -149,7 +150,7 @@ module _ {s : State} {h : List ℕ} {e : ℕ} (g : Shape s h e) (r : ℕ) (some 
         bound = g .blank .channel;
         runs = w .runs ∙ one-other _ OnChannel (λ z. omega (arith, z, d)) ∙ sym (one-other 0 OnChannel (λ z. omega (arith, z)));
         run-others = λ y a n. refl;
-        spares = added-lt 17 r (s .spare) (omega arith) (g .blank .spare);
+        spares = adding-low 17 (s .spare) r (g .blank .spare) (omega arith);
         spare = added-same (s .spare) r ∙ sym (one-same 0 0 refl);
         spare-others = λ y n. added-other (s .spare) r y n;
         checks = λ y a b z. let p = g .tasks y a b .checks z in pending-kept r noRequest (not-r p) p;

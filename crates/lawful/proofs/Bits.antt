@@ -1,67 +1,68 @@
--- Runs of core, unit by unit: to add a run that is apart adds its bits, to subtract one that is inside takes them away. By halving both words.
-use mathlib.Core.Path.{_≡_, sym, ap, ap₂, _∙_}
-use Prim.Native.Nat.{ℕ, zero, suc, _+_, _-_, _*_, _/_, _%_, _^_, _≤_, _<_, min}
+-- The bits of a word as numbers, so that sums count them: what the laws of a word as a set say of a member, said of 1 and 0. By whether the number is a
+-- member.
+use mathlib.Core.Bool.{Bool, true, false, cond, _&&_, and-true}
+use mathlib.Core.Path.{_≡_, refl, sym, _∙_}
+use mathlib.Core.Logic.{⊎-elim}
+use Prim.Native.Nat.{ℕ, _+_, _-_, _^_, _≤_, _<_}
 use native.Mathlib.Omega.{arith}
-use native.Mathlib.Nat.{div-one, pow-suc, mod-lt, suc-min-suc}
-use lib.Bits.{bitAnd, and-step}
-use lib.Pow.{shr-shr}
+use lib.Bits.{bitAnd}
+use borrow.Author.Tests.{eq-eqb, eqb-true, eqb-false}
+use Rattle.words.specs.Words.{has, size}
+use Rattle.words.proofs.Lists.{and-left, and-right}
+use Rattle.words.proofs.Members.{true-or-false, has-none, has-above, has-meet}
+use Rattle.words.proofs.Subsets.{own-width, inside-has, inside-shown, apart-has}
+use Rattle.words.proofs.Changes.{has-plus, has-minus}
+use Rattle.words.proofs.Ones.{ones-inside}
 use Rattle.lawful.specs.Shape.{bit}
 
-two-pos : 0 < 2
-two-pos = omega arith
+pub bit-le : (w u : ℕ) → bit w u ≤ 1
+bit-le w u = omega arith
 
-pub bit-zero : (w : ℕ) → bit w 0 ≡ w % 2
-bit-zero w = ap (λ (x : ℕ). x % 2) (div-one w)
+-- a member's bit is 1, another's 0
+pub bit-of : (w u : ℕ) {b : Bool} → has w u ≡ b → bit w u ≡ cond b 1 0
+bit-of w u {b = true} h = eqb-true (bit w u) 1 h
+bit-of w u {b = false} h = let n = eqb-false (bit w u) 1 h in omega (arith, n, bit-le w u)
 
-pub bit-suc : (w u : ℕ) → bit w (suc u) ≡ bit (w / 2) u
-bit-suc w u = ap (λ (x : ℕ). x % 2) (sym (shr-shr w 1 u ∙ ap (λ (n : ℕ). w / 2 ^ n) (let e : 1 + u ≡ suc u = omega arith in e)))
+pub bit-same : (v w u : ℕ) → has v u ≡ has w u → bit v u ≡ bit w u
+bit-same v w u e = bit-of v u e ∙ sym (bit-of w u refl)
 
-not-both : (x y : ℕ) → x < 2 → y < 2 → min x y ≡ 0 → x + y < 2
-not-both zero y a b e = omega arith
-not-both (suc x) zero a b e = omega arith
-not-both (suc x) (suc y) a b e = absurd (omega (arith, suc-min-suc x y))
+pub bit-none : (u : ℕ) → bit 0 u ≡ 0
+bit-none u = bit-of 0 u (has-none u)
 
-add-low : (p r : ℕ) → p % 2 + r % 2 < 2 → (p + r) % 2 ≡ p % 2 + r % 2
-add-low p r h = omega arith
+pub bit-high : (m w u : ℕ) → w < 2 ^ m → m ≤ u → bit w u ≡ 0
+bit-high m w u h l = bit-of w u (has-above m w u h l)
 
-sub-low : (p r : ℕ) → r ≤ p → r % 2 ≤ p % 2 → (p - r) % 2 + r % 2 ≡ p % 2
-sub-low p r l h = omega arith
+-- ---- One set is within another.
+pub and-within : (u p r : ℕ) → bitAnd p r ≡ p → bit p u ≤ bit r u
+and-within u p r e =
+    ⊎-elim (λ (h : has p u ≡ true). omega (arith, bit-of r u (inside-has p r u e h), bit-le p u)) (λ (h : has p u ≡ false). omega (arith, bit-of p u h))
+    (true-or-false (has p u))
 
-half-lt : (r w : ℕ) → r < 2 ^ w → r / 2 < 2 ^ w
-half-lt r w h = omega arith
+pub of-within : (p r : ℕ) → ((u : ℕ) → bit p u ≤ bit r u) → bitAnd p r ≡ p
+of-within p r f = inside-shown p r (λ u h. eq-eqb (bit r u) 1 (omega (arith, f u, bit-of p u h, bit-le r u)))
 
-sub-half : (p r : ℕ) → r ≤ p → r % 2 ≤ p % 2 → (p - r) / 2 ≡ p / 2 - r / 2
-sub-half p r l h = omega arith
+-- what is within another has no more
+pub fewer : (v o o′ : ℕ) → ((u : ℕ) → bit o′ u ≤ bit o u) → size (bitAnd v o′) ≤ size (bitAnd v o)
+fewer v o o′ f =
+    ones-inside 64 (bitAnd v o′) (bitAnd v o)
+    (inside-shown (bitAnd v o′) (bitAnd v o)
+    (λ u h.
+    let b : (has v u && has o′ u) ≡ true = sym (has-meet v o′ u) ∙ h in
+    has-meet v o u ∙ rw (and-left (has v u) (has o′ u) b, inside-has o′ o u (of-within o′ o f) (and-right (has v u) (has o′ u) b))))
 
+-- ---- A set that is apart is added, and one that is inside is taken out.
 pub bit-add : (u p r : ℕ) → bitAnd p r ≡ 0 → bit (p + r) u ≡ bit p u + bit r u
-bit-add u p r e = go u p r (sym (and-step p r) ∙ e)
-  where
-    go : (u p r : ℕ) → bitAnd (p / 2) (r / 2) * 2 + min (p % 2) (r % 2) ≡ 0 → bit (p + r) u ≡ bit p u + bit r u
-    go zero p r f =
-        let n = not-both (p % 2) (r % 2) (mod-lt p two-pos) (mod-lt r two-pos) (omega (arith, f)) in
-        bit-zero (p + r) ∙ add-low p r n ∙ sym (ap₂ (λ (x y : ℕ). x + y) (bit-zero p) (bit-zero r))
-    go (suc u) p r f =
-        let n = not-both (p % 2) (r % 2) (mod-lt p two-pos) (mod-lt r two-pos) (omega (arith, f)) in
-        let h : (p + r) / 2 ≡ p / 2 + r / 2 = omega (arith, n) in
-        let z : bitAnd (p / 2) (r / 2) ≡ 0 = omega (arith, f) in
-        bit-suc (p + r) u ∙ ap (λ (x : ℕ). bit x u) h
-        ∙ go u (p / 2) (r / 2) (sym (and-step (p / 2) (r / 2)) ∙ z)
-        ∙ sym (ap₂ (λ (x y : ℕ). x + y) (bit-suc p u) (bit-suc r u))
+bit-add u p r e =
+    ⊎-elim
+    (λ (h : has p u ≡ true). omega (arith, bit-of (p + r) u {b = true} (has-plus p r u e ∙ rw h), bit-of p u h, bit-of r u (apart-has p r u e h)))
+    (λ (h : has p u ≡ false). omega (arith, bit-same (p + r) r u (has-plus p r u e ∙ rw h), bit-of p u h))
+    (true-or-false (has p u))
 
--- a word all of whose bits are bits of another is at most that
-pub bits-le : (w p r : ℕ) → r < 2 ^ w → ((u : ℕ) → bit r u ≤ bit p u) → r ≤ p
-bits-le zero p r h f = omega (arith, h)
-bits-le (suc w) p r h f =
-    let i : r / 2 ≤ p / 2 = bits-le w (p / 2) (r / 2) (omega (arith, h, pow-suc 2 w)) (λ u. omega (arith, f (suc u), bit-suc r u, bit-suc p u)) in
-    omega (arith, f 0, bit-zero r, bit-zero p)
-
-pub bit-sub : (w u p r : ℕ) → r < 2 ^ w → ((u : ℕ) → bit r u ≤ bit p u) → bit (p - r) u + bit r u ≡ bit p u
-bit-sub w zero p r h f =
-    let l = bits-le w p r h f in
-    ap₂ (λ (x y : ℕ). x + y) (bit-zero (p - r)) (bit-zero r)
-    ∙ sub-low p r l (rw (← bit-zero r, ← bit-zero p) (f 0)) ∙ sym (bit-zero p)
-bit-sub w (suc u) p r h f =
-    let l = bits-le w p r h f in
-    let e : (p - r) / 2 ≡ p / 2 - r / 2 = sub-half p r l (rw (← bit-zero r, ← bit-zero p) (f 0)) in
-    let i = bit-sub w u (p / 2) (r / 2) (half-lt r w h) (λ v. omega (arith, f (suc v), bit-suc r v, bit-suc p v)) in
-    ap₂ (λ (x y : ℕ). x + y) (bit-suc (p - r) u ∙ ap (λ (x : ℕ). bit x u) e) (bit-suc r u) ∙ i ∙ sym (bit-suc p u)
+pub bit-sub : (u p r : ℕ) → ((v : ℕ) → bit r v ≤ bit p v) → bit (p - r) u + bit r u ≡ bit p u
+bit-sub u p r f =
+    let i = of-within r p f in
+    let m = has-minus p p r (own-width p) i u in
+    ⊎-elim
+    (λ (h : has r u ≡ true). omega (arith, bit-of (p - r) u {b = false} (m ∙ rw (inside-has r p u i h, h)), bit-of r u h, bit-of p u (inside-has r p u i h)))
+    (λ (h : has r u ≡ false). omega (arith, bit-same (p - r) p u (m ∙ rw h (and-true (has p u))), bit-of r u h))
+    (true-or-false (has r u))

@@ -9,12 +9,12 @@ use native.Mathlib.Omega.{arith}
 use lib.Dec.{eqb, ltb}
 use borrow.Author.Tests.{ne-eqb, lt-ltb, le-ltb, eqb-true, eq-eqb}
 use Rattle.threads.proofs.Lists.{tested}
+use Rattle.words.proofs.Places.{under-or-from}
 use Rattle.tables.specs.declared.Task.{Task}
 use Rattle.tables.specs.State.{State, taskAt}
 use Rattle.tables.specs.Blocks.{noTask}
 use Rattle.meaning.specs.Rules.{upward, chainsEnd}
 use Rattle.lawful.specs.Shape.{Shape, Ranked}
-use Rattle.lawful.proofs.Sums.{le-or}
 use Rattle.lawful.proofs.Tests.{all-to, to-all}
 use Rattle.lawful.proofs.Counted.{total, total-lt}
 
@@ -32,11 +32,11 @@ unfolding lower
 lower-ge a b h = rw (le-ltb a b h)
 
 lower-one : (a b : ℕ) → lower a b ≤ 1
-lower-one a b = ⊎-elim (λ z. omega (arith, lower-ge a b z)) (λ z. omega (arith, lower-lt a b z)) (le-or b a)
+lower-one a b = ⊎-elim (λ z. omega (arith, lower-lt a b z)) (λ z. omega (arith, lower-ge a b z)) (under-or-from a b)
 
 lower-mono : (y a b : ℕ) → a < b → lower y a ≤ lower y b
 lower-mono y a b h =
-    ⊎-elim (λ z. omega (arith, lower-ge y a z)) (λ z. omega (arith, lower-lt y a z, lower-lt y b (omega (arith, z, h)))) (le-or a y)
+    ⊎-elim (λ z. omega (arith, lower-lt y a z, lower-lt y b (omega (arith, z, h)))) (λ z. omega (arith, lower-ge y a z)) (under-or-from y a)
 
 upward-none : {s : State} {h : List ℕ} {e : ℕ} → Shape s h e → (n : ℕ) → upward s n 0 ≡ 0
 unfolding upward
@@ -83,8 +83,8 @@ upward-shorter s {s′} g f (suc n) k e =
 module _ {s : State} {h : List ℕ} {e : ℕ} (g : Shape s h e) where
   parent-low : (k : ℕ) → k ≤ 24 → taskAt s k .parent ≤ 24
   parent-low k b =
-      ⊎-elim (λ z. g .tasks k z b .fields .parent)
-      (λ z. let i : k ≡ 0 = omega (arith, z) in omega (arith, ap (λ (x : ℕ). taskAt s x .parent) i, ap (λ (t : Task). t .parent) (g .blank .block))) (le-or 1 k)
+      ⊎-elim (λ z. let i : k ≡ 0 = omega (arith, z) in omega (arith, ap (λ (x : ℕ). taskAt s x .parent) i, ap (λ (t : Task). t .parent) (g .blank .block)))
+      (λ z. g .tasks k z b .fields .parent) (under-or-from k 1)
 
   climbs : (n k : ℕ) → k ≤ 24 → upward s (suc n) k ≢ 0 → g .ranked .rank (upward s (suc n) k) < g .ranked .rank k
   unfolding upward

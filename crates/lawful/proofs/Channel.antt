@@ -11,6 +11,7 @@ use lib.Dec.{eqb}
 use Rattle.threads.specs.Threads.{hd, count, without}
 use Rattle.threads.proofs.Lists.{tested}
 use Rattle.words.specs.Words.{if_then_else_, isEmpty, upBy, placedBy, dropping, least}
+use Rattle.words.proofs.Changes.{dropping-low}
 use Rattle.tables.specs.declared.Request.{Request}
 use Rattle.tables.specs.State.{State, eventQueue, channelQueue, coreQueue, node, requestOf, taskAt, requestAt, queue, levelOf, unitsOf}
 use Rattle.tables.specs.Blocks.{InLink, InCheck, Queued, OnChannel, Done, request, noRequest, task}
@@ -27,7 +28,7 @@ use Rattle.lawful.proofs.Queues.{count-cons, count-without, count-place
 use Rattle.lawful.proofs.Enter.{hand-stands}
 use Rattle.lawful.proofs.Members.{channel-high, channel-low, channel-queued, runs-place, runs-stands}
 use Rattle.lawful.proofs.Leave.{stop}
-use Rattle.lawful.proofs.Free.{least-in, least-some, least-low, dropped-same, dropped-other, dropped-le}
+use Rattle.lawful.proofs.Free.{least-in, least-some, least-low, dropped-same, dropped-other}
 use Rattle.lawful.proofs.Ask.{asking, ask, pending-kept, free-request}
 use Rattle.lawful.proofs.Link.{park, park-rest}
 use Rattle.lawful.proofs.Clearing.{rest-freed}
@@ -148,6 +149,19 @@ starts {s} {h} {e} {m} g a =
           };
         }
 
+-- ---- The lowest free request block.
+module _ {s : State} {h : List ℕ} {e : ℕ} (g : Shape s h e) (some : s .spare ≢ 0) where
+  pub spare-some : 1 ≤ least (s .spare)
+  spare-some = least-some (s .spare) 17 (omega arith) (g .blank .spare) some (g .blank .spare-none)
+
+  pub spare-low : least (s .spare) ≤ 16
+  spare-low = omega (arith, least-low (s .spare) 17 (omega arith) (g .blank .spare) some (g .blank .spare-none))
+
+  pub spare-free : requestAt s (least (s .spare)) .place ≡ 0
+  spare-free =
+      let i = least-in (s .spare) 17 (omega arith) (g .blank .spare) some (g .blank .spare-none) in
+      one-eq _ 0 (sym (g .requests (least (s .spare)) spare-some spare-low .spare) ∙ i)
+
 -- ---- READ, WRITE.
 module _ {s : State} (g : Lawful s) (n : s .running ≢ 0) (some : s .spare ≢ 0) (device command bytes : ℕ) (lo : device ≤ 249) (c : (13 ≤ command) × (command ≤ 14)) (b : 1 ≤ bytes) where
   abbrev new-r : ℕ
@@ -156,14 +170,8 @@ module _ {s : State} (g : Lawful s) (n : s .running ≢ 0) (some : s .spare ≢ 
   abbrev new-one : Request
   new-one = request Queued (s .running) device command bytes
 
-  new-some : 1 ≤ new-r
-  new-some = least-some (s .spare) 17 (omega arith) (g .shape .blank .spare) some (g .shape .blank .spare-none)
-
-  new-low : new-r ≤ 16
-  new-low = omega (arith, least-low (s .spare) 17 (omega arith) (g .shape .blank .spare) some (g .shape .blank .spare-none))
-
   was-free : requestAt s new-r .place ≡ 0
-  was-free = one-eq _ 0 (sym (g .shape .requests new-r new-some new-low .spare) ∙ least-in (s .spare) 17 (omega arith) (g .shape .blank .spare) some (g .shape .blank .spare-none))
+  was-free = spare-free (g .shape) some
 
   not-pending : {y i : ℕ} → Pending (s .requests) y i → i ≢ new-r
   not-pending p z = omega (arith, p .first, ap (λ (j : ℕ). requestAt s j .place) z, was-free)
@@ -179,12 +187,12 @@ module _ {s : State} (g : Lawful s) (n : s .running ≢ 0) (some : s .spare ≢ 
   unfolding channelLevel key
   entered =
       let v = g .shape in
-      let w = v .requests new-r new-some new-low in
+      let w = v .requests new-r (spare-some v some) (spare-low v some) in
       let nine = v .sizes .queues in
       let gone = set-queue (s .queues) channelQueue longer nine (omega arith) in
       ask s new-r new-one v (record {
-        some = new-some;
-        low = new-low;
+        some = spare-some v some;
+        low = spare-low v some;
         nine = set-nine (s .queues) channelQueue longer nine (omega arith);
         same = λ i d. set-others (s .queues) channelQueue longer nine (omega arith) i d;
         others = λ y d. rw gone (omega (arith, count-placed key (node new-r) y (queue s channelQueue), one-other (node new-r) y (λ i. d (sym i))));
@@ -196,7 +204,7 @@ module _ {s : State} (g : Lawful s) (n : s .running ≢ 0) (some : s .spare ≢ 
         bound = v .blank .channel;
         runs = w .runs ∙ one-other _ OnChannel (λ i. omega (arith, i, was-free)) ∙ sym (one-other Queued OnChannel (λ i. omega (arith, i)));
         run-others = λ y a d. refl;
-        spares = omega (arith, v .blank .spare, dropped-le (s .spare) new-r);
+        spares = omega (arith, v .blank .spare, dropping-low (s .spare) new-r);
         spare = dropped-same (s .spare) new-r ∙ sym (one-other Queued 0 (λ i. omega (arith, i)));
         spare-others = λ y d. dropped-other (s .spare) new-r y d;
         checks = λ y a b i. let p = v .tasks y a b .checks i in pending-kept new-r new-one (not-pending p) p;

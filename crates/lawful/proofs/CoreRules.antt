@@ -8,7 +8,6 @@ use Prim.Native.Nat.{ℕ, suc, _+_, _^_, _≤_, _<_}
 use native.Mathlib.Omega.{arith}
 use lib.ListN.{length, getD}
 use lib.Dec.{eqb}
-use lib.Pow.{shl-lt, ones-lt, pow-mono}
 use borrow.Author.Tests.{eqb-true, eq-eqb}
 use Rattle.threads.proofs.Lists.{tested}
 use Rattle.words.specs.Words.{if_then_else_, oneTo, below, allOf, howMany, has}
@@ -19,29 +18,23 @@ use Rattle.tables.specs.declared.Task.{Task}
 use Rattle.tables.specs.Blocks.{InLink, noTask}
 use Rattle.tables.specs.State.{State, taskAt, poolAt, levelOf, unitsOf}
 use Rattle.pools.specs.Pools.{run}
+use Rattle.pools.proofs.Runs.{run-low}
 use Rattle.meaning.specs.Rules.{holdsUnit, coreHeld, linked}
 use Rattle.lawful.specs.Shape.{one, bit, sum, moduleOf, holding, Core, children}
 use Rattle.lawful.proofs.Shape.{one-other}
-use Rattle.lawful.proofs.Tests.{all-to, to-all, has-one, has-none}
-use Rattle.lawful.proofs.Free.{bit-high}
+use Rattle.lawful.proofs.Tests.{all-to, to-all}
+use Rattle.lawful.proofs.Bits.{bit-of, bit-high}
 use Rattle.lawful.proofs.Cored.{holding-own, holding-none, holding-other}
 use Rattle.lawful.proofs.Counted.{sum-many}
 
 -- ---- One task and one unit.
-
-has-number : (w u : ℕ) → bit w u ≡ (if has w u then 1 else 0)
-has-number w u = go (has w u) refl
-  where
-    go : (b : Bool) → has w u ≡ b → bit w u ≡ (if b then 1 else 0)
-    go true e = has-one w u e
-    go false e = has-none w u e
 
 holding-number : (s : State) (level u k : ℕ) → holding (s .directory) level u (taskAt s k) ≡ (if holdsUnit s level u k then 1 else 0)
 unfolding holding holdsUnit
 holding-number s level u k = go (eqb (taskAt s k .core) 1) (eqb (levelOf s k) level)
   where
     go : (a b : Bool) → cond (a && b) (bit (run (taskAt s k .start) (unitsOf s k)) u) 0 ≡ (if a && b && has (run (taskAt s k .start) (unitsOf s k)) u then 1 else 0)
-    go true true = has-number (run (taskAt s k .start) (unitsOf s k)) u
+    go true true = bit-of (run (taskAt s k .start) (unitsOf s k)) u refl
     go true false = refl
     go false b = refl
 
@@ -59,11 +52,7 @@ holding-high : (d : Directory) (level u : ℕ) (t : Task) → 64 ≤ u → (t .c
 holding-high d level u t b f =
     ⊎-elim
     (λ c. ⊎-elim
-    (λ e.
-    let n = moduleOf d t .units in
-    let a = shl-lt (moduleOf d t .units) (t .start) (ones-lt (moduleOf d t .units)) in
-    let i : 2 ^ (moduleOf d t .units + t .start) ≤ 2 ^ 64 = pow-mono {i = moduleOf d t .units + t .start} {j = 64} (omega (arith, f (c .1))) in
-    holding-own d level u t (c .1) (e .1) ∙ bit-high 64 (run (t .start) (moduleOf d t .units)) u (omega (arith, a, i)) b)
+    (λ e. holding-own d level u t (c .1) (e .1) ∙ bit-high 64 (run (t .start) (moduleOf d t .units)) u (run-low (t .start) (moduleOf d t .units) (f (c .1))) b)
     (λ e. holding-other d level u t (e .1)) (tested (moduleOf d t .level) level))
     (λ c. holding-none d level u t (c .1)) (tested (t .core) 1)
 
@@ -80,7 +69,7 @@ module _ (s : State) (long : length (s .tasks) ≡ 25) (no-task : taskAt s 0 ≡
   of-core g =
       to-all (λ level. allOf (λ u. eqb (howMany (holdsUnit s level u) (oneTo 24)) (if has (poolAt s level) u then 1 else 0)) (below 64)) 3
       (λ level a b. all-shown (λ u. eqb (howMany (holdsUnit s level u) (oneTo 24)) (if has (poolAt s level) u then 1 else 0)) 64
-      (λ u c. eq-eqb _ _ (sym (units-held level u) ∙ g .units level u a b ∙ has-number (poolAt s level) u)))
+      (λ u c. eq-eqb _ _ (sym (units-held level u) ∙ g .units level u a b ∙ bit-of (poolAt s level) u refl)))
 
   pub core-of : ((level : ℕ) → poolAt s level < 2 ^ 64) → ((k : ℕ) → k < length (s .tasks) → taskAt s k .core ≡ 1 → taskAt s k .start + unitsOf s k ≤ 64)
       → coreHeld s ≡ true → Core (s .directory) (s .tasks) (s .pools)
@@ -93,7 +82,7 @@ module _ (s : State) (long : length (s .tasks) ≡ 25) (no-task : taskAt s 0 ≡
             (λ c. units-held level u
             ∙ eqb-true _ _ (all-at (λ u. eqb (howMany (holdsUnit s level u) (oneTo 24)) (if has (poolAt s level) u then 1 else 0)) 64 u
             (all-to (λ level. allOf (λ u. eqb (howMany (holdsUnit s level u) (oneTo 24)) (if has (poolAt s level) u then 1 else 0)) (below 64)) 3 e level a b) c)
-            ∙ sym (has-number (poolAt s level) u))
+            ∙ sym (bit-of (poolAt s level) u refl))
             (λ c. sum-none (holding (s .directory) level u) (s .tasks) (λ k l. holding-high (s .directory) level u (taskAt s k) c (inside k l)) ∙ sym (bit-high 64 (poolAt s level) u (low level) c))
             (under-or-from u 64);
       }

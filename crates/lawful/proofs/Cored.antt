@@ -1,16 +1,14 @@
 -- Core is granted to a task, or given back by it: one block and one pool change. The units stay those of the runs because the granted run is apart from
 -- the pool, and the one given back inside it.
-use mathlib.Core.Bool.{true, cond, and-false}
+use mathlib.Core.Bool.{cond, and-false}
 use mathlib.Core.Path.{_≡_, refl, sym, ap, _∙_}
 use mathlib.Core.Logic.{_≢_, inl, ⊎-elim}
 use mathlib.Core.List.{List}
-use Prim.Native.Nat.{ℕ, suc, _+_, _-_, _*_, _^_, _≤_, _<_}
+use Prim.Native.Nat.{ℕ, _+_, _-_, _^_, _≤_, _<_}
 use native.Mathlib.Omega.{arith}
-use native.Mathlib.Nat.{pow-suc, mul-le-mul-right}
 use lib.ListN.{length, set, getD, length-set}
 use lib.Seq.{getD-set-same, getD-set-other}
 use lib.Bits.{bitAnd}
-use lib.Pow.{shl-lt, ones-lt, pow-mono, pow-pos, pow-add}
 use borrow.Author.Tests.{eq-eqb, ne-eqb}
 use Rattle.threads.specs.Threads.{count}
 use Rattle.threads.proofs.Lists.{tested}
@@ -20,14 +18,17 @@ use Rattle.image.specs.Directory.{noEntry}
 use Rattle.tables.specs.declared.Task.{Task}
 use Rattle.tables.specs.State.{State, timeQueue, state, taskAt, poolAt, queue, levelOf, unitsOf}
 use Rattle.tables.specs.Blocks.{Free, task, noTask}
-use Rattle.pools.specs.Pools.{run, freeAt}
+use Rattle.pools.specs.Pools.{run, startOf}
+use Rattle.pools.specs.Runs.{FreeRun}
+use Rattle.pools.proofs.Units.{free-inside}
+use Rattle.pools.proofs.Starts.{start-free}
+use Rattle.pools.proofs.Runs.{granted-low, run-apart}
 use Rattle.meaning.specs.Ready.{startFor, granted}
 use Rattle.meaning.specs.Rules.{queueFor}
 use Rattle.lawful.specs.Shape.{one, bit, Hand, placeOf, moduleOf, Fields, Stands, holding, Core, Shape}
 use Rattle.lawful.proofs.Change.{change, ranked-kept}
 use Rattle.lawful.proofs.Queues.{up-same}
-use Rattle.lawful.proofs.Sums.{field-kept, sum-set, sum-kept, sum-le, le-or}
-use Rattle.lawful.proofs.Runs.{start-free, run-fits, run-apart}
+use Rattle.lawful.proofs.Sums.{field-kept, sum-set, sum-kept, sum-le}
 use Rattle.lawful.proofs.Bits.{bit-add, bit-sub}
 use Rattle.lawful.proofs.Members.{level-best, level-worst}
 
@@ -130,41 +131,29 @@ module _ (d : Directory) (l : List Task) (pools : List ℕ) (k : ℕ) (y : Task)
             (omega (arith, sum-set (holding d i u) l k y noTask low, g .units i u p q, other i u (z .1)))) (tested i level);
       }
 
--- a run that is a word of 64 units ends inside them
-run-inside : (a n : ℕ) → 1 ≤ n → run a n < 2 ^ 64 → a + n ≤ 64
-run-inside a n i h =
-    ⊎-elim
-    (λ l. l)
-    (λ l.
-    let m = n - 1 in
-    let e : n ≡ suc m = omega arith in
-    let p : 2 ^ n ≡ 2 ^ m * 2 = ap (λ (x : ℕ). 2 ^ x) e ∙ pow-suc 2 m in
-    let b : 2 ^ m * 2 ^ a ≤ run a n = mul-le-mul-right (2 ^ a) (omega (arith, p, pow-pos m)) in
-    let c : 2 ^ 64 ≤ 2 ^ (m + a) = pow-mono {i = 64} {j = m + a} (omega (arith, l, e)) in
-    absurd (omega (arith, b, c, pow-add 2 m a, h)))
-    (le-or (a + n) 64)
-
 -- ---- Granting.
 module _ {s : State} {h : List ℕ} {e k : ℕ} (g : Shape s h e) (some : 1 ≤ k) (low : k ≤ 24) (hand : placeOf s h k ≡ Hand) where
   used : placeOf s h k ≢ Free
   used z = omega (arith, hand, z)
 
   module _ (n : 1 ≤ unitsOf s k) (z : taskAt s k .core ≡ 0) (f : startFor s k < 64) where
-    is-free : freeAt (poolAt s (levelOf s k)) (unitsOf s k) (startFor s k) ≡ true
+    is-free : FreeRun (poolAt s (levelOf s k)) (startFor s k) (unitsOf s k)
     unfolding startFor
-    is-free = start-free (poolAt s (levelOf s k)) (unitsOf s k) f
+    is-free =
+        let p = poolAt s (levelOf s k) in
+        let free = start-free p (unitsOf s k) f in
+        record { inside = free-inside p (unitsOf s k) (startOf p (unitsOf s k)) (g .core .low (levelOf s k)) n free; free = free }
 
     fits-in : poolAt s (levelOf s k) + run (startFor s k) (unitsOf s k) < 2 ^ 64
-    fits-in = run-fits (poolAt s (levelOf s k)) (unitsOf s k) (startFor s k) (g .core .low (levelOf s k)) is-free
+    fits-in = granted-low (poolAt s (levelOf s k)) (startFor s k) (unitsOf s k) (g .core .low (levelOf s k)) is-free
 
     apart : bitAnd (poolAt s (levelOf s k)) (run (startFor s k) (unitsOf s k)) ≡ 0
-    apart = run-apart (poolAt s (levelOf s k)) (unitsOf s k) (startFor s k) (g .core .low (levelOf s k)) is-free
+    apart = run-apart (poolAt s (levelOf s k)) (startFor s k) (unitsOf s k) (g .core .low (levelOf s k)) is-free
 
     pub grant : Shape (granted s k) h e
     unfolding granted
     grant =
         let w = g .tasks k some low .fields in
-        let i = run-inside (startFor s k) (unitsOf s k) n (omega (arith, fits-in)) in
         recore s k 1 (startFor s k) (levelOf s k) _ g some low (level-best g some low used)
         (rw hand (let v = rw hand at w in record {
           kind = v .kind;
@@ -173,7 +162,7 @@ module _ {s : State} {h : List ℕ} {e k : ℕ} (g : Shape s h e) (some : 1 ≤ 
           program = v .program;
           parent = v .parent;
           core = omega arith;
-          inside = λ b. i;
+          inside = λ b. is-free .inside;
           start = λ b. absurd (b refl);
           unneeded = λ b. absurd (omega (arith, b, n));
           waits = λ b. absurd (omega (arith, b));
@@ -200,13 +189,6 @@ module _ {s : State} {h : List ℕ} {e k : ℕ} (g : Shape s h e) (some : 1 ≤ 
 
   pub used-holder : placeOf s h k ≢ Free
   used-holder z = omega (arith, g .tasks k some low .fields .free z, o)
-
-  run-word : run (taskAt s k .start) (unitsOf s k) < 2 ^ 64
-  run-word =
-      let i = g .tasks k some low .fields .inside o in
-      let a = shl-lt (unitsOf s k) (taskAt s k .start) (ones-lt (unitsOf s k)) in
-      let b : 2 ^ (unitsOf s k + taskAt s k .start) ≤ 2 ^ 64 = pow-mono {i = unitsOf s k + taskAt s k .start} {j = 64} (omega (arith, i)) in
-      omega (arith, a, b)
 
   run-granted : (u : ℕ) → bit (run (taskAt s k .start) (unitsOf s k)) u ≤ bit (poolAt s (levelOf s k)) u
   run-granted u =
@@ -245,5 +227,5 @@ module _ {s : State} {h : List ℕ} {e k : ℕ} (g : Shape s h e) (some : 1 ≤ 
         arith,
         holding-own (s .directory) (levelOf s k) u (taskAt s k) o refl,
         holding-none (s .directory) (levelOf s k) u (recored s k 2 0 (levelOf s k) 0) (λ c. omega (arith, c)),
-        bit-sub 64 u (poolAt s (levelOf s k)) (run (taskAt s k .start) (unitsOf s k)) run-word run-granted,
+        bit-sub u (poolAt s (levelOf s k)) (run (taskAt s k .start) (unitsOf s k)) run-granted,
       )))

@@ -3,12 +3,13 @@
 use mathlib.Core.Bool.{Bool}
 use mathlib.Core.Logic.{⊎-elim}
 use mathlib.Core.Path.{_≡_, refl, sym, ap, ap₂, _∙_}
-use mathlib.Core.List.{List, [], _∷_, _++_}
+use mathlib.Core.List.{List, [], _∷_}
 use Prim.Native.Nat.{ℕ, zero, suc, _+_, _≤_, _<_}
 use native.Mathlib.Omega.{arith}
 use lib.ListN.{length, getD}
 use Rattle.threads.proofs.Lists.{tested}
 use Rattle.words.specs.Words.{if_then_else_, oneTo, howMany}
+use Rattle.words.proofs.Ones.{many-append}
 use Rattle.lawful.specs.Shape.{sum}
 
 -- f 1 + f 2 + .. + f n
@@ -43,11 +44,6 @@ sum-total {ℓ} : {A : Type ℓ} (f : A → ℕ) (a : A) (l : List A) (d : A) �
 unfolding sum total
 sum-total f a [] d = refl
 sum-total f a (b ∷ l) d = ap (λ (n : ℕ). f a + n) (sum-total f b l d ∙ sym (total-front (λ i. f (getD (a ∷ b ∷ l) i d)) (length l)))
-
-many-append : (p : ℕ → Bool) (l m : List ℕ) → howMany p (l ++ m) ≡ howMany p l + howMany p m
-unfolding howMany
-many-append p [] m = omega arith
-many-append p (a ∷ l) m = omega (arith, many-append p l m)
 
 many-total : (p : ℕ → Bool) (n : ℕ) → howMany p (oneTo n) ≡ total (λ i. if p i then 1 else 0) n
 unfolding howMany oneTo total

@@ -13,6 +13,7 @@ use borrow.Author.Tests.{eq-eqb, ne-eqb}
 use Rattle.threads.specs.Threads.{count}
 use Rattle.threads.proofs.Lists.{tested}
 use Rattle.words.specs.Words.{_among_, dropping}
+use Rattle.words.proofs.Changes.{dropping-low}
 use Rattle.tables.specs.declared.Task.{Task}
 use Rattle.tables.specs.State.{State, timeQueue, taskAt, queue, levelOf}
 use Rattle.tables.specs.Blocks.{Free, Running, InLink, task, noTask}
@@ -25,7 +26,7 @@ use Rattle.lawful.proofs.Shape.{one-sym, one-same, one-other, one-eq, h
 use Rattle.lawful.proofs.Queues.{up-same}
 use Rattle.lawful.proofs.Cored.{holding-none}
 use Rattle.lawful.proofs.Members.{not-in}
-use Rattle.lawful.proofs.Free.{dropped-same, dropped-other, dropped-le}
+use Rattle.lawful.proofs.Free.{dropped-same, dropped-other}
 
 module _ {s : State} {h : List ℕ} (g : Shape s h 0) (k m p : ℕ) (some : 1 ≤ k) (low : k ≤ 24) (idle : bit (s .idle) k ≡ 1)
     (known : m < s .directory .modules) (parent : p ≤ 24) (apart : p ≢ k) where
@@ -151,7 +152,7 @@ module _ {s : State} {h : List ℕ} (g : Shape s h 0) (k m p : ℕ) (some : 1 �
         nine = g .sizes .queues;
         four = g .sizes .pools;
         running = g .blank .running;
-        idles = omega (arith, g .blank .idle, dropped-le (s .idle) k);
+        idles = omega (arith, g .blank .idle, dropping-low (s .idle) k);
         pool = g .blank .pool;
         core =
             core-kept k fresh (g .core) (λ level u.

@@ -10,6 +10,7 @@ use lib.Seq.{getD-set-same, getD-set-other}
 use Rattle.threads.specs.Threads.{count}
 use Rattle.threads.proofs.Lists.{tested}
 use Rattle.words.specs.Words.{_among_, adding}
+use Rattle.words.proofs.Changes.{adding-low}
 use Rattle.image.specs.declared.Directory.{Directory}
 use Rattle.tables.specs.declared.Task.{Task}
 use Rattle.tables.specs.State.{State, eventQueue, timeQueue, coreQueue, state, taskAt, requestAt, queue}
@@ -23,7 +24,7 @@ use Rattle.lawful.proofs.Sums.{sum-set}
 use Rattle.lawful.proofs.Shape.{one-same, one-other, held-place, other-place, out-place, one-sym}
 use Rattle.lawful.proofs.Queues.{up-same}
 use Rattle.lawful.proofs.Cored.{holding-none}
-use Rattle.lawful.proofs.Free.{added-same, added-other, added-lt}
+use Rattle.lawful.proofs.Free.{added-same, added-other}
 use Rattle.lawful.proofs.Enter.{hand-count, hand-runs}
 use Rattle.lawful.proofs.Resting.{rest-beside}
 
@@ -109,7 +110,7 @@ module _ {s : State} {k : ℕ} {h : List ℕ} {e : ℕ} (i : InHand s k h e) (co
         nine = g .sizes .queues;
         four = g .sizes .pools;
         running = g .blank .running;
-        idles = added-lt 25 k (s .idle) (omega (arith, i .low)) (g .blank .idle);
+        idles = adding-low 25 (s .idle) k (g .blank .idle) (omega (arith, i .low));
         pool = g .blank .pool;
         core =
             core-kept k noTask (g .core) (λ level u.

@@ -12,6 +12,7 @@ use borrow.Author.Tests.{eqb-true, eq-eqb, leb-true, ltb-true, not-true, not-fal
 use Rattle.threads.specs.Threads.{count, Apart}
 use Rattle.threads.proofs.Lists.{tested}
 use Rattle.words.specs.Words.{_implies_, upBy, each-holds, has}
+use Rattle.words.proofs.Places.{under-or-from}
 use Rattle.tables.specs.declared.Request.{Request}
 use Rattle.tables.specs.declared.Task.{Task}
 use Rattle.tables.specs.Blocks.{Free, InLink, InCheck, Ending, noTask, noRequest}
@@ -24,9 +25,8 @@ use Rattle.lawful.specs.Shape.{one, placeOf, Fields, Stands, Carried, Si
 use Rattle.lawful.specs.Resting.{Lawful}
 use Rattle.lawful.proofs.Shape.{one-same, one-other, rest-place}
 use Rattle.lawful.proofs.Truth.{both, implied}
-use Rattle.lawful.proofs.Tests.{all-to, set-of, has-none}
+use Rattle.lawful.proofs.Tests.{all-to, set-of}
 use Rattle.lawful.proofs.Standing.{in-some}
-use Rattle.lawful.proofs.Sums.{le-or}
 use Rattle.lawful.proofs.Directory.{passing}
 use Rattle.lawful.proofs.Blanks.{task-blank, request-blank}
 use Rattle.lawful.proofs.PlaceRules.{taskPlaced, requestPlace, task-placed}
@@ -36,7 +36,7 @@ use Rattle.lawful.proofs.CoreRules.{core-of, links-of}
 use Rattle.lawful.proofs.Chains.{ranked-of}
 use Rattle.lawful.proofs.RestRules.{busy-of, asleep-of, flowing-of, stuck-of, passes-of}
 use Rattle.lawful.proofs.Pendings.{pending-at, pending-of, pending-some}
-use Rattle.lawful.proofs.Subset.{and-within}
+use Rattle.lawful.proofs.Bits.{bit-of, and-within}
 
 -- the i-th of a list of tests
 each-at : (l : List Bool) → each-holds l ≡ true → (i : ℕ) → getD l i true ≡ true
@@ -97,9 +97,9 @@ module _ (s : State) (z : Sizes s) (low : (level : ℕ) → poolAt s level < 2 ^
         request = no-request;
         pool = eqb-true _ 0 (clears .4);
         idle = ltb-true _ _ (sets .2);
-        idle-none = has-none (s .idle) 0 (not-true _ (sets .3));
+        idle-none = bit-of (s .idle) 0 (not-true _ (sets .3));
         spare = ltb-true _ _ (sets .4);
-        spare-none = has-none (s .spare) 0 (not-true _ (sets .5));
+        spare-none = bit-of (s .spare) 0 (not-true _ (sets .5));
         running = leb-true _ _ (ranges .0);
         channel = leb-true _ _ (ranges .1);
         on = λ v. and-within v (s .on) (s .directory .defined) (eqb-true _ _ (not-false _ (not-true _ (each-at (stateRules s) e 2))));
@@ -160,11 +160,11 @@ module _ (s : State) (z : Sizes s) (low : (level : ℕ) → poolAt s level < 2 ^
 
   inside : (k : ℕ) → k < length (s .tasks) → taskAt s k .core ≡ 1 → taskAt s k .start + unitsOf s k ≤ 64
   inside k l c =
-      ⊎-elim (λ a. fields k a (omega (arith, l, z .tasks)) .inside c)
-      (λ a. let i : k ≡ 0 = omega (arith, a) in absurd (omega (arith, c, ap (λ (x : ℕ). taskAt s x .core) i, ap (λ (t : Task). t .core) no-task))) (le-or 1 k)
+      ⊎-elim (λ a. let i : k ≡ 0 = omega (arith, a) in absurd (omega (arith, c, ap (λ (x : ℕ). taskAt s x .core) i, ap (λ (t : Task). t .core) no-task)))
+      (λ a. fields k a (omega (arith, l, z .tasks)) .inside c) (under-or-from k 1)
 
   nowhere : (y : ℕ) → ((1 ≤ y) × (y ≤ 40) → ⊥) → (q : ℕ) → count y (queue s q) ≡ 0
-  nowhere y f q = ⊎-elim (λ i. absurd (f (u .inside y (omega (arith, i, in-some y (s .queues) q))))) (λ i. omega (arith, i)) (le-or 1 (count y (queue s q)))
+  nowhere y f q = ⊎-elim (λ i. omega (arith, i)) (λ i. absurd (f (u .inside y (omega (arith, i, in-some y (s .queues) q))))) (under-or-from (count y (queue s q)) 1)
 
   shape : Shape s [] 0
   unfolding stateRules

@@ -7,6 +7,7 @@ use native.Mathlib.Omega.{arith}
 use lib.Seq.{getD-set-same, getD-set-other}
 use Rattle.threads.specs.Threads.{count}
 use Rattle.threads.proofs.Lists.{tested}
+use Rattle.words.proofs.Places.{under-or-from}
 use Rattle.tables.specs.declared.Task.{Task}
 use Rattle.tables.specs.State.{State, coreQueue, taskAt, poolAt, queue, levelOf, unitsOf}
 use Rattle.tables.specs.Blocks.{noTask}
@@ -18,7 +19,7 @@ use Rattle.meaning.specs.Finish.{givenBack}
 use Rattle.meaning.specs.Services.{freemain}
 use Rattle.lawful.specs.Shape.{Shape}
 use Rattle.lawful.specs.Resting.{Rest, Lawful, Settled}
-use Rattle.lawful.proofs.Sums.{field-kept, le-or}
+use Rattle.lawful.proofs.Sums.{field-kept}
 use Rattle.lawful.proofs.Cored.{recored, coring, give-back, core-units, used-holder}
 use Rattle.lawful.proofs.Members.{level-best, level-worst, member-core}
 use Rattle.lawful.proofs.Made.{stuck-same}
@@ -56,8 +57,8 @@ module _ {s : State} {h : List ℕ} {e : ℕ} {m : List ℕ} (g : Shape s h e) (
     not-waiting level a b =
         let w = g .tasks k some low in
         ⊎-elim
-        (λ z. let c = member-core g k (coreQueue level) (omega arith) z (omega arith) (omega arith) .0 in absurd (omega (arith, w .fields .waits c .1, o)))
-        (λ z. omega (arith, z)) (le-or 1 (count k (queue s (coreQueue level))))
+        (λ z. omega (arith, z))
+        (λ z. let c = member-core g k (coreQueue level) (omega arith) z (omega arith) (omega arith) .0 in absurd (omega (arith, w .fields .waits c .1, o))) (under-or-from (count k (queue s (coreQueue level))) 1)
 
     freed-rest : RestBut freed m (levelOf s k)
     unfolding enough

@@ -30,7 +30,7 @@ use Rattle.lawful.proofs.Ask.{asking, ask, pending-kept, free-request}
 use Rattle.lawful.proofs.Made.{made-ready}
 use Rattle.lawful.proofs.Resting.{rest-made}
 use Rattle.lawful.proofs.Clearing.{rest-freed, clear-free}
-use Rattle.lawful.proofs.Finish.{finish}
+use Rattle.lawful.proofs.Finish.{Finishes, finish}
 use Rattle.lawful.proofs.Pendings.{quiet-of, pending-some}
 use Rattle.lawful.proofs.Channel.{rest-asking, starts}
 use Rattle.lawful.proofs.Calls.{settled}
@@ -160,32 +160,44 @@ resumed {s} g r =
     }) in
     settled (w .shape) (w .rest)
 
+-- ---- The owner of the request on the channel, in CHECK or ending: in hand, with the request's block freed.
+module _ {s : State} (g : Lawful s) (n : s .channel ≢ 0) where
+  pub owner-used : (1 ≤ owner s) × (owner s ≤ 24)
+  owner-used = let w = was n (g .shape) .used (omega (arith, on n (g .shape))) in (w .0, w .1)
+
+  owner-hand : (7 ≤ taskAt s (owner s) .place) × (taskAt s (owner s) .place ≤ 8) → InHand s (owner s) [] 0
+  owner-hand l = seize (g .shape) (owner s) (owner-used .0) (owner-used .1) (rw (rest-place s (owner s)) l)
+
+  pub freed-hand : (7 ≤ taskAt s (owner s) .place) × (taskAt s (owner s) .place ≤ 8) → InHand (freedRequest (off s) (s .channel)) (owner s) [] 0
+  freed-hand l = owner-freed n (owner-hand l)
+
+  pub freed-rest : Rest (freedRequest (off s) (s .channel)) (0 ∷ [])
+  freed-rest = rest-freed (s .channel) (excused g n)
+
+  -- it is ending, and this was its last
+  pub freed-finishes : taskAt s (owner s) .place ≡ Ending → pending (off s) (owner s) ≡ false
+      → Finishes (freedRequest (off s) (s .channel)) (finished (freedRequest (off s) (s .channel)) (owner s)) (owner s) [] (0 ∷ [])
+  freed-finishes p q =
+      let d = ap (λ (x : Request). x .place) (over-same n (g .shape)) in
+      let o = owner-off n (owner-hand (omega (arith, p))) .shape in
+      let w = clear-free (owner-used .0) o (excused g n) (quiet-of (off s) (owner s) q) (s .channel) (omega arith) (g .shape .blank .channel) d in
+      finish (freed-hand (omega (arith, p))) freed-rest (w .clears .quiet)
+
 -- ---- The three cases.
 module _ {s : State} (g : Lawful s) (n : s .channel ≢ 0) where
   abbrev k : ℕ
   k = requestAt s (s .channel) .owner
 
-  owner-used : (1 ≤ k) × (k ≤ 24)
-  owner-used = let w = was n (g .shape) .used (omega (arith, on n (g .shape))) in (w .0, w .1)
-
   -- its owner waits on it in CHECK
   checked : taskAt s k .place ≡ InCheck → Settled (started (madeReady (freedRequest (off s) (s .channel)) k))
   checked p =
-      let e = rest-place s k ∙ p in
-      let i = owner-freed n (seize (g .shape) k (owner-used .0) (owner-used .1) (omega (arith, e))) in
+      let i = freed-hand g n (omega (arith, p)) in
       let d = made-ready i in
-      resumed (d .shape) (rest-made i d (rest-freed (s .channel) (excused g n)))
+      resumed (d .shape) (rest-made i d (freed-rest g n))
 
   -- its owner is ending, and this was the last
   ended-now : taskAt s k .place ≡ Ending → pending (off s) k ≡ false → Settled (started (finished (freedRequest (off s) (s .channel)) k))
-  ended-now p q =
-      let e = rest-place s k ∙ p in
-      let j = seize (g .shape) k (owner-used .0) (owner-used .1) (omega (arith, e)) in
-      let i = owner-freed n j in
-      let w = clear-free (owner-used .0) (owner-off n j .shape) (excused g n) (quiet-of (off s) k q) (s .channel) (omega arith) (g .shape .blank .channel)
-      (ap (λ (x : Request). x .place) (over-same n (g .shape))) in
-      let f = finish i (rest-freed (s .channel) (excused g n)) (w .clears .quiet) in
-      resumed (f .shape) (f .rest)
+  ended-now p q = let f = freed-finishes g n p q in resumed (f .shape) (f .rest)
 
   -- otherwise
   marked : (taskAt s k .place ≡ InCheck → taskAt s k .request ≢ s .channel) → (taskAt s k .place ≡ Ending → pending (off s) k ≡ true) → Settled (started (off s))

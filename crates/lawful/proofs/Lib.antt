@@ -3,9 +3,7 @@ pub mod Sums
 pub mod Shape
 pub mod Bits
 pub mod Free
-pub mod Runs
 pub mod Counted
-pub mod Subset
 pub mod Truth
 pub mod Queues
 pub mod Tests

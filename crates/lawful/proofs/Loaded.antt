@@ -21,7 +21,7 @@ use Rattle.lawful.proofs.Freed.{free-fields}
 use Rattle.lawful.proofs.Shape.{one-same, one-other, rest-place}
 use Rattle.lawful.proofs.Cored.{holding-none}
 use Rattle.lawful.proofs.Tests.{all-to}
-use Rattle.lawful.proofs.Free.{bit-none}
+use Rattle.lawful.proofs.Bits.{bit-none}
 
 module _ {ℓ} {A : Type ℓ} (x : A) where
   alike : (n i : ℕ) → getD (replicate n x) i x ≡ x

@@ -9,11 +9,11 @@ use native.Mathlib.Omega.{arith}
 use Rattle.threads.specs.Threads.{count}
 use Rattle.threads.proofs.Lists.{tested}
 use Rattle.words.specs.Words.{_among_}
+use Rattle.words.proofs.Places.{under-or-from}
 use Rattle.tables.specs.State.{State, requestAt, channelQueue, queue, levelOf}
 use Rattle.tables.specs.Blocks.{Free, Running, Ready, InCore, InEvent, InTime}
 use Rattle.meaning.specs.Rules.{queueFor}
 use Rattle.lawful.specs.Shape.{Hand, placeOf, Stands, Shape}
-use Rattle.lawful.proofs.Sums.{le-or}
 use Rattle.lawful.proofs.Shape.{one-same, one-other, one-eq, one-le}
 
 -- ---- What the directory says of a used block.
@@ -50,19 +50,19 @@ not-in s h k n = go (k among h) refl
 
 module _ {s : State} {h : List ℕ} {e : ℕ} (g : Shape s h e) (k q : ℕ) (low : q < 8) (c : 1 ≤ count k (queue s q)) where
   pub member-some : 1 ≤ k
-  member-some = ⊎-elim (λ z. z) (λ z. let i : k ≡ 0 = omega (arith, z) in absurd (omega (arith, c, g .none q, ap (λ (y : ℕ). count y (queue s q)) i))) (le-or 1 k)
+  member-some = ⊎-elim (λ z. let i : k ≡ 0 = omega (arith, z) in absurd (omega (arith, c, g .none q, ap (λ (y : ℕ). count y (queue s q)) i))) (λ z. z) (under-or-from k 1)
 
   pub member-low : k ≤ 24
   member-low =
-      ⊎-elim (λ z. z)
-      (λ z.
+      ⊎-elim (λ z.
       ⊎-elim
+      (λ y. absurd (omega (arith, c, g .beyond q k y)))
       (λ y.
       let i : k ≡ (k - 24) + 24 = omega (arith, z) in
       absurd (omega (arith, c, g .requests (k - 24) (omega (arith, z)) (omega (arith, y)) .others q low, ap (λ (x : ℕ). count x (queue s q)) i)))
-      (λ y. absurd (omega (arith, c, g .beyond q k y)))
-      (le-or k 40))
-      (le-or k 24)
+      (under-or-from 40 k))
+      (λ z. z)
+      (under-or-from 24 k)
 
   pub member-stands : Stands s (placeOf s h k) k
   member-stands = g .tasks k member-some member-low
@@ -102,11 +102,12 @@ module _ {s : State} {h : List ℕ} {e : ℕ} (g : Shape s h e) (k q : ℕ) (low
 -- ---- Who is in the channel queue is a request, and its owner is used
 module _ {s : State} {h : List ℕ} {e : ℕ} (g : Shape s h e) (y : ℕ) (c : 1 ≤ count y (queue s channelQueue)) where
   channel-some : 1 ≤ y
-  channel-some = ⊎-elim (λ z. z) (λ z. let i : y ≡ 0 = omega (arith, z) in absurd (omega (arith, c, g .none channelQueue, ap (λ (x : ℕ). count x (queue s channelQueue)) i))) (le-or 1 y)
+  channel-some = ⊎-elim (λ z. let i : y ≡ 0 = omega (arith, z) in absurd (omega (arith, c, g .none channelQueue, ap (λ (x : ℕ). count x (queue s channelQueue)) i))) (λ z. z) (under-or-from y 1)
 
   pub channel-high : 24 < y
   channel-high =
       ⊎-elim
+      (λ z. z)
       (λ z.
       let w = g .tasks y channel-some z in
       let i : queueFor (placeOf s h y) (levelOf s y) ≡ 8 =
@@ -114,11 +115,10 @@ module _ {s : State} {h : List ℕ} {e : ℕ} (g : Shape s h e) (y : ℕ) (c : 1
       let p = queue-place _ _ 8 i (omega arith) in
       let b = level-worst g channel-some z (λ j. omega (arith, j, p)) in
       by-queue (placeOf s h y) (levelOf s y) 8 i (omega arith) (λ a d. absurd (omega (arith, d, b))) (λ a d. absurd (omega (arith, d, b))) (λ a d. absurd (omega (arith, d)))
-      (λ a d. absurd (omega (arith, d))))
-      (λ z. z) (le-or y 24)
+      (λ a d. absurd (omega (arith, d)))) (under-or-from 24 y)
 
   pub channel-low : y ≤ 40
-  channel-low = ⊎-elim (λ z. z) (λ z. absurd (omega (arith, c, g .beyond channelQueue y z))) (le-or y 40)
+  channel-low = ⊎-elim (λ z. absurd (omega (arith, c, g .beyond channelQueue y z))) (λ z. z) (under-or-from 40 y)
 
   pub channel-queued : requestAt s (y - 24) .place ≡ 1
   channel-queued =

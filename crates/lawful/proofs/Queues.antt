@@ -3,13 +3,13 @@ use mathlib.Core.Bool.{Bool, true, false, cond, _&&_}
 use mathlib.Core.Path.{_≡_, refl, sym, ap, ap₂, _∙_}
 use mathlib.Core.Logic.{_≢_, ⊎-elim}
 use mathlib.Core.List.{List, [], _∷_, _++_}
-use Prim.Native.Nat.{ℕ, _+_, _≤_, _<_}
+use Prim.Native.Nat.{ℕ, suc, _+_, _≤_, _<_}
 use native.Mathlib.Omega.{arith}
 use lib.ListN.{length, set, getD, length-set}
 use lib.Seq.{getD-set-same, getD-set-other}
 use lib.Dec.{leb, ltb}
 use borrow.Author.Tests.{leb-true, le-leb, ltb-true, ltb-false}
-use Rattle.threads.specs.Threads.{count, without}
+use Rattle.threads.specs.Threads.{count, counts, without}
 use Rattle.threads.proofs.Lists.{tested, count-nil, count-append, count-hit, count-past}
 use Rattle.words.specs.Words.{upBy, placedBy}
 use Rattle.lawful.specs.Shape.{one}
@@ -40,6 +40,12 @@ count-without k y (a ∷ l) h =
     (λ c. rw (c .0) (rw (c .1) (omega (arith, count-cons k y l))))
     (λ c. rw (c .0) (omega (arith, count-without k y l (rw (count-past a k l (c .1)) at h), count-cons a y l, count-cons a y (without k l))))
     (tested a k)
+
+-- a block that stands in none of the queues
+pub counts-none : (y : ℕ) (ls : List (List ℕ)) → ((q : ℕ) → q < length ls → count y (getD ls q []) ≡ 0) → counts y ls ≡ 0
+unfolding counts
+counts-none y [] f = refl
+counts-none y (l ∷ ls) f = omega (arith, f 0 (omega arith), counts-none y ls (λ q h. f (suc q) (omega (arith, h))))
 
 -- ---- One queue of the nine changed.
 module _ (l : List (List ℕ)) (q : ℕ) (m : List ℕ) (nine : length l ≡ 9) (low : q < 9) where

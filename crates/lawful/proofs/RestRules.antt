@@ -10,6 +10,7 @@ use borrow.Author.Tests.{not-true, not-false, leb-true, le-leb, eqb-true, eq-eqb
 use Rattle.threads.specs.Threads.{hd, count}
 use Rattle.threads.proofs.Lists.{count-nil, count-append}
 use Rattle.words.specs.Words.{_implies_, size, isEmpty, oneTo, allOf}
+use Rattle.words.proofs.Places.{under-or-from}
 use Rattle.tables.specs.State.{State, channelQueue, eventQueue, coreQueue, readyQueue, taskAt, poolAt, queue, levelOf, unitsOf}
 use Rattle.pools.specs.Pools.{startOf}
 use Rattle.meaning.specs.Conditions.{enough, undefinedIn}
@@ -17,7 +18,6 @@ use Rattle.meaning.specs.Ready.{startFor, fits}
 use Rattle.meaning.specs.Rules.{busy, eventsWait, coreWaits, ofTheirLevel, channelBusy, eventsPass}
 use Rattle.lawful.specs.Shape.{Shape}
 use Rattle.lawful.specs.Resting.{Flowing, Asleep, Stuck, Busy}
-use Rattle.lawful.proofs.Sums.{le-or}
 use Rattle.lawful.proofs.Shape.{one-same}
 use Rattle.lawful.proofs.Queues.{count-cons}
 use Rattle.lawful.proofs.Tests.{all-of, of-all, all-to, to-all, emptied}
@@ -97,9 +97,9 @@ module _ {s : State} (g : Shape s [] 0) where
   of-level : (level k : ℕ) → 1 ≤ level → level ≤ 3 → 1 ≤ count k (queue s (readyQueue level) ++ queue s (coreQueue level)) → levelOf s k ≡ level
   of-level level k a b c =
       ⊎-elim
-      (λ z. let m = member-ready g k (readyQueue level) (omega (arith, b)) z a b in sym (m .1))
       (λ z. let m = member-core g k (coreQueue level) (omega (arith, b)) (omega (arith, c, z, count-append k (queue s (readyQueue level)) (queue s (coreQueue level)))) (omega (arith, a)) (omega (arith, b)) in omega (arith, m .1))
-      (le-or 1 (count k (queue s (readyQueue level))))
+      (λ z. let m = member-ready g k (readyQueue level) (omega (arith, b)) z a b in sym (m .1))
+      (under-or-from (count k (queue s (readyQueue level))) 1)
 
   pub of-levels : ofTheirLevel s ≡ true
   unfolding ofTheirLevel

@@ -7,9 +7,9 @@ use mathlib.Core.List.{List, [], _∷_}
 use Prim.Native.Nat.{ℕ, _≤_, _<_}
 use native.Mathlib.Omega.{arith}
 use lib.Dec.{ltb}
-use borrow.Author.Tests.{ltb-true, ltb-false, eq-eqb}
+use borrow.Author.Tests.{ltb-true, ltb-false}
 use Rattle.threads.specs.Threads.{hd, count, without}
-use Rattle.threads.proofs.Lists.{tested}
+use Rattle.threads.proofs.Lists.{tested, count-nil, without-at}
 use Rattle.words.specs.Words.{if_then_else_, isEmpty}
 use Rattle.tables.specs.State.{State, eventQueue, channelQueue, coreQueue, taskAt, queue, levelOf, leaving}
 use Rattle.meaning.specs.Conditions.{enough}
@@ -45,10 +45,6 @@ pub record Serves (s s′ : State) (level : ℕ) (h : List ℕ) (e : ℕ) (m : L
   pub shape : Shape s′ h e
   pub rest : Rest s′ m
   pub frame : Served s s′ level
-
-without-first : (k : ℕ) (l : List ℕ) → without k (k ∷ l) ≡ l
-unfolding without
-without-first k l = rw (eq-eqb k k refl)
 
 module _ {s : State} {h : List ℕ} {e : ℕ} {level : ℕ} {m : List ℕ} (g : Shape s h e) (r : RestBut s m level) (lo : 1 ≤ level) (hi : level ≤ 3) where
   -- nobody waits
@@ -110,7 +106,7 @@ module _ {s : State} {h : List ℕ} {e : ℕ} {level : ℕ} {m : List ℕ} (g : 
     seat f = seats hand needing f
 
     gone : queue (leaving s (coreQueue level) k) (coreQueue level) ≡ l
-    gone = set-queue (s .queues) (coreQueue level) _ (g .sizes .queues) (omega arith) ∙ ap (without k) q ∙ without-first k l
+    gone = set-queue (s .queues) (coreQueue level) _ (g .sizes .queues) (omega arith) ∙ ap (without k) q ∙ without-at k [] l (count-nil k)
 
     others : (i : ℕ) → i ≢ coreQueue level → queue (leaving s (coreQueue level) k) i ≡ queue s i
     others i n = set-others (s .queues) (coreQueue level) (without k (queue s (coreQueue level))) (g .sizes .queues) (omega arith) i n

@@ -1,10 +1,11 @@
 -- Laws of `one`, a test as a number, and of `placeOf`, where a block is: each says what the one test that it makes gives.
-use mathlib.Core.Path.{_≡_, refl, sym, _∙_}
-use mathlib.Core.Bool.{false}
+use mathlib.Core.Path.{_≡_, refl, sym, ap, _∙_}
+use mathlib.Core.Bool.{Bool, false, cond}
 use mathlib.Core.Logic.{_≢_, _⊎_, inl, inr, ⊎-elim}
 use mathlib.Core.List.{List, [], _∷_}
-use Prim.Native.Nat.{ℕ, _≤_}
+use Prim.Native.Nat.{ℕ, suc, _≤_}
 use native.Mathlib.Omega.{arith}
+use lib.Dec.{eqb·suc-suc}
 use borrow.Author.Tests.{eq-eqb, ne-eqb}
 use Rattle.threads.proofs.Lists.{tested}
 use Rattle.words.specs.Words.{_among_}
@@ -18,6 +19,10 @@ one-same a b e = rw (eq-eqb a b e)
 pub one-other : (a b : ℕ) → a ≢ b → one a b ≡ 0
 unfolding one
 one-other a b n = rw (ne-eqb a b n)
+
+pub one-suc : (n v : ℕ) → one (suc n) (suc v) ≡ one n v
+unfolding one
+one-suc n v = ap (λ (b : Bool). cond b 1 0) (eqb·suc-suc n v)
 
 -- a test of two numbers, with what `one` says of it
 pub one-or : (a b : ℕ) → ((a ≡ b) × (one a b ≡ 1)) ⊎ ((a ≢ b) × (one a b ≡ 0))

@@ -19,7 +19,7 @@ use Rattle.meaning.specs.Ready.{madeReady}
 use Rattle.meaning.specs.Services.{woken, signal}
 use Rattle.lawful.specs.Shape.{bit, Shape, InHand}
 use Rattle.lawful.specs.Resting.{Asleep, Rest, Lawful, Settled}
-use Rattle.lawful.proofs.Subset.{fewer}
+use Rattle.lawful.proofs.Bits.{fewer}
 use Rattle.lawful.proofs.Still.{timed-on, shape-on}
 use Rattle.lawful.proofs.Shape.{one-same, one-other}
 use Rattle.lawful.proofs.Free.{added-same, added-other, dropped-same, dropped-other}

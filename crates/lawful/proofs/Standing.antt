@@ -10,8 +10,7 @@ use Rattle.threads.specs.Threads.{count, counts}
 use Rattle.threads.proofs.Lists.{count-nil}
 use Rattle.words.specs.Words.{_among_, standing}
 use Rattle.lawful.specs.Shape.{one}
-use Rattle.lawful.proofs.Shape.{one-same, one-other}
-use Rattle.lawful.proofs.Free.{one-suc}
+use Rattle.lawful.proofs.Shape.{one-same, one-other, one-suc}
 use Rattle.lawful.proofs.Tests.{among-count, count-among}
 
 pub in-some : (y : ℕ) (ls : List (List ℕ)) (q : ℕ) → count y (getD ls q []) ≤ counts y ls

@@ -1,16 +1,12 @@
 -- Sums over a list of blocks, and what one changed block does to them and to a field. By induction on the list.
-use mathlib.Core.Bool.{Bool, true, false}
 use mathlib.Core.Path.{_≡_, refl, ap}
-use mathlib.Core.Logic.{_⊎_, inl, inr}
-use Rattle.tables.specs.declared.Task.{Task}
-use Rattle.lawful.specs.Shape.{sum}
 use mathlib.Core.List.{List, [], _∷_}
 use Prim.Native.Nat.{ℕ, zero, suc, _+_, _≤_, _<_}
 use native.Mathlib.Omega.{arith}
 use native.Mathlib.Nat.{le-of-suc-le-suc, not-suc-le-zero}
 use lib.ListN.{length, set, getD}
-use lib.Dec.{leb}
-use borrow.Author.Tests.{leb-true, leb-false}
+use Rattle.tables.specs.declared.Task.{Task}
+use Rattle.lawful.specs.Shape.{sum}
 
 module _ {ℓ} {A : Type ℓ} (f : A → ℕ) where
   pub sum-set : (l : List A) (k : ℕ) (x d : A) → k < length l → sum f (set l k x) + f (getD l k d) ≡ sum f l + f x
@@ -39,11 +35,3 @@ field-kept f (z ∷ l) zero zero x d e = e
 field-kept f (z ∷ l) zero (suc y) x d e = refl
 field-kept f (z ∷ l) (suc k) zero x d e = refl
 field-kept f (z ∷ l) (suc k) (suc y) x d e = field-kept f l k y x d e
-
--- a comparison, decided
-pub le-or : (a b : ℕ) → (a ≤ b) ⊎ (b < a)
-le-or a b = go (leb a b) refl
-  where
-    go : (c : Bool) → leb a b ≡ c → (a ≤ b) ⊎ (b < a)
-    go true e = inl (leb-true a b e)
-    go false e = inr (leb-false a b e)

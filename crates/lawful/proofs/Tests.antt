@@ -15,7 +15,7 @@ use Rattle.lawful.specs.Shape.{one, bit}
 use Rattle.lawful.proofs.Truth.{both, and-of, same-bool, of-same}
 use Rattle.lawful.proofs.Shape.{one-same, one-other, one-eq}
 use Rattle.lawful.proofs.Queues.{count-cons}
-use Rattle.lawful.proofs.Free.{bit-le}
+use Rattle.lawful.proofs.Bits.{bit-of}
 
 -- ---- Every number of a list.
 pub all-of : (p : ℕ → Bool) (l : List ℕ) → allOf p l ≡ true → (y : ℕ) → 1 ≤ count y l → p y ≡ true
@@ -74,18 +74,12 @@ pub agrees : (x : Bool) (n a b : ℕ) → (x ≡ true → n ≡ 1) → (x ≡ fa
 agrees true n a b f g e = sym (eq-eqb a b (one-eq a b (sym e ∙ f refl)))
 agrees false n a b f g e = sym (ne-eqb a b (λ z. omega (arith, g refl, e, one-same a b z)))
 
-pub has-one : (w e : ℕ) → has w e ≡ true → bit w e ≡ 1
-has-one w e h = eqb-true _ _ h
-
-pub has-none : (w e : ℕ) → has w e ≡ false → bit w e ≡ 0
-has-none w e h = ⊎-elim (λ z. absurd (true≢false (sym (eq-eqb (bit w e) 1 (z .1)) ∙ h))) (λ z. omega (arith, z .1, bit-le w e)) (tested (bit w e) 1)
-
 -- a rule of a set and of blocks: each number is in the set where the block's place is the given one
 pub set-of : (w a b k : ℕ) → Bool·beq (has w k) (eqb a b) ≡ true → bit w k ≡ one a b
-set-of w a b k e = agree (has w k) (bit w k) a b (has-one w k) (has-none w k) (same-bool (has w k) (eqb a b) e)
+set-of w a b k e = agree (has w k) (bit w k) a b (bit-of w k) (bit-of w k) (same-bool (has w k) (eqb a b) e)
 
 pub of-set : (w a b k : ℕ) → bit w k ≡ one a b → Bool·beq (has w k) (eqb a b) ≡ true
-of-set w a b k e = of-same (has w k) (eqb a b) (agrees (has w k) (bit w k) a b (has-one w k) (has-none w k) e)
+of-set w a b k e = of-same (has w k) (eqb a b) (agrees (has w k) (bit w k) a b (bit-of w k) (bit-of w k) e)
 
 -- two tests of two numbers agree
 eqb-one : (a b : ℕ) → eqb a b ≡ true → one a b ≡ 1

@@ -29,7 +29,7 @@ use Rattle.lawful.proofs.CoreRules.{of-core, of-links}
 use Rattle.lawful.proofs.Chains.{of-ranked}
 use Rattle.lawful.proofs.RestRules.{of-busy, of-asleep, of-stuck, of-flowing, of-levels, of-passes}
 use Rattle.lawful.proofs.Pendings.{of-pending, some-pending}
-use Rattle.lawful.proofs.Subset.{of-within}
+use Rattle.lawful.proofs.Bits.{of-within}
 
 -- every test of a list, from the tests one by one
 record All (l : List Bool) : Type 0 where

@@ -6,10 +6,10 @@ use Prim.Native.Nat.{ℕ}
 use lib.Dec.{eqb}
 use borrow.Author.Tests.{eq-eqb, ne-eqb}
 use Rattle.threads.proofs.Lists.{tested}
+use Rattle.words.proofs.Lists.{and-left, and-right}
 
 pub both : (a b : Bool) → (a && b) ≡ true → (a ≡ true) × (b ≡ true)
-both true b e = (refl, e)
-both false b e = absurd (true≢false (sym e))
+both a b e = (and-left a b e, and-right a b e)
 
 pub and-of : (a b : Bool) → a ≡ true → b ≡ true → (a && b) ≡ true
 and-of a b e f = rw (e, f)

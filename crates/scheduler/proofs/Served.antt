@@ -4,11 +4,11 @@ use mathlib.Core.Logic.{_≢_}
 use mathlib.Core.List.{List, [], _∷_, tail}
 use Prim.Native.Nat.{ℕ, _≤_, _<_}
 use native.Mathlib.Omega.{arith}
-use lib.ListN.{length, set, getD}
+use lib.ListN.{length}
 use lib.Seq.{getD-set-same, getD-set-other}
-use borrow.Author.Tests.{eq-eqb, lt-ltb, le-ltb}
+use borrow.Author.Tests.{lt-ltb, le-ltb}
 use Rattle.threads.specs.Threads.{hd, count, without, Sound, Member}
-use Rattle.threads.proofs.Lists.{count-append, count-hit}
+use Rattle.threads.proofs.Lists.{count-nil, count-append, count-hit, without-at}
 use Rattle.tables.proofs.Held.{first-split, first-empty, first-member, queues-nine}
 use Rattle.image.specs.declared.Directory.{Directory}
 use Rattle.image.specs.Directory.{entryAt}
@@ -34,10 +34,6 @@ seated-as s q k = rw (level-granted (leaving s q k) k)
 pub moved-start : (s : State) (q k : ℕ) {a : ℕ} → a ≡ startFor s k → a ≡ startFor (leaving s q k) k
 unfolding startFor
 moved-start s q k e = e
-
-without-first : (k : ℕ) (l : List ℕ) → without k (k ∷ l) ≡ l
-unfolding without
-without-first k l = rw (eq-eqb k k refl)
 
 -- where directory and modules stay, and no other block comes to wait, the waiters are waiters
 pub waiters-kept : (s u : State) (level : ℕ) → u .directory ≡ s .directory → ((y : ℕ) → taskAt u y .program ≡ taskAt s y .program)
@@ -79,7 +75,7 @@ module _ (s : State) (level k : ℕ) (l : List ℕ) (nine : length (s .queues) �
       ap (λ (x : State). queue x (coreQueue level)) (sym (seated-as s (coreQueue level) k))
       ∙ getD-set-other (granted (leaving s (coreQueue level) k) k .queues) (levelOf s k) (coreQueue level) _ [] d
       ∙ getD-set-same (s .queues) (coreQueue level) _ [] (omega (arith, nine, w .worst))
-      ∙ ap (without k) e ∙ without-first k l
+      ∙ ap (without k) e ∙ without-at k [] l (count-nil k)
 
   pub seated-waiters : Waiters (seated s (coreQueue level) k) level
   seated-waiters =

@@ -1,13 +1,12 @@
 -- What the shape of a state gives: what the functions of the code ask.
 use mathlib.Core.Bool.{true}
-use mathlib.Core.Path.{_≡_, refl, ap}
+use mathlib.Core.Path.{_≡_, refl}
 use mathlib.Core.Logic.{_≢_}
-use mathlib.Core.List.{List, [], _∷_}
-use Prim.Native.Nat.{ℕ, suc, _≤_, _<_}
+use mathlib.Core.List.{List}
+use Prim.Native.Nat.{ℕ, _≤_, _<_}
 use native.Mathlib.Omega.{arith}
 use borrow.Author.Tests.{eq-eqb, eqb-true}
-use lib.ListN.{length, getD}
-use Rattle.threads.specs.Threads.{count, counts, queuesOf, Sound}
+use Rattle.threads.specs.Threads.{queuesOf, Sound}
 use Rattle.tables.specs.declared.Tables.{Tables}
 use Rattle.words.specs.Words.{has}
 use Rattle.words.proofs.Masks.{in-run}
@@ -15,20 +14,16 @@ use Rattle.pools.specs.Pools.{run}
 use Rattle.pools.specs.Runs.{HeldRun}
 use Rattle.pools.proofs.Units.{held-shown}
 use Rattle.tables.specs.Blocks.{Free, HoldsRun, noTask}
-use Rattle.tables.specs.State.{State, coreQueue, taskAt, poolAt, queue, levelOf, unitsOf, read}
+use Rattle.tables.specs.State.{State, coreQueue, taskAt, poolAt, levelOf, unitsOf, read}
 use Rattle.tables.specs.Held.{Fit, Held, Loose}
 use Rattle.lawful.specs.Shape.{bit, holding, placeOf, Shape, InHand}
 use Rattle.lawful.proofs.Sums.{sum-le}
-use Rattle.lawful.proofs.Free.{bit-le}
+use Rattle.lawful.proofs.Queues.{counts-none}
+use Rattle.lawful.proofs.Bits.{bit-le}
 use Rattle.lawful.proofs.Cored.{holding-own, used-holder}
 use Rattle.lawful.proofs.Enter.{hand-stands, hand-count}
 use Rattle.lawful.proofs.Members.{level-best, level-worst, member-some, member-low, member-stands, member-used, member-core, channel-high}
 use Rattle.scheduler.specs.Core.{Waiters, Holder}
-
-counts-none : (y : ℕ) (ls : List (List ℕ)) → ((q : ℕ) → q < length ls → count y (getD ls q []) ≡ 0) → counts y ls ≡ 0
-unfolding counts
-counts-none y [] f = refl
-counts-none y (l ∷ ls) f = omega (arith, f 0 (omega arith), counts-none y ls (λ q h. f (suc q) (omega (arith, h))))
 
 shape-fit : {s : State} {h : List ℕ} {e : ℕ} → Shape s h e → Fit s
 shape-fit g = record { tasks = λ q y l c. omega (arith, member-low g y q l c); requests = λ y c. channel-high g y c }

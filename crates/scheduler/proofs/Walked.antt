@@ -7,9 +7,8 @@ use Prim.Native.Nat.{ℕ, _≤_, _<_}
 use native.Mathlib.Omega.{arith}
 use lib.ListN.{length, getD}
 use lib.Dec.{leb}
-use borrow.Author.Tests.{eq-eqb, ne-eqb}
 use Rattle.threads.specs.Threads.{hd, count, without, walk, Sound}
-use Rattle.threads.proofs.Lists.{count-append, count-hit, absent-head}
+use Rattle.threads.proofs.Lists.{count-append, count-hit, without-at}
 use Rattle.words.specs.Words.{if_then_else_, each}
 use Rattle.tables.specs.declared.Tables.{Tables}
 use Rattle.tables.specs.State.{State, eventQueue, timeQueue, taskAt, queue, leaving, read}
@@ -55,11 +54,6 @@ wakes-time =
 
 -- ---- Lists.
 
-without-mid : (k : ℕ) (A B : List ℕ) → count k A ≡ 0 → without k (A ++ k ∷ B) ≡ A ++ B
-unfolding without
-without-mid k [] B e = rw (eq-eqb k k refl)
-without-mid k (a ∷ A) B e = let h = absent-head a k A e in rw (ne-eqb a k (h .0), without-mid k A B (h .1))
-
 no-first : (A B : List ℕ) → count 0 (A ++ B) ≡ 0 → hd B ≡ 0 → B ≡ []
 no-first A [] c e = refl
 no-first A (a ∷ B) c e = absurd (omega (arith, c, count-append 0 A (a ∷ B), count-hit a 0 B e))
@@ -73,7 +67,7 @@ module _ {f : ℕ → State → State} {q : ℕ} (w : Wakes f q) {s : State} (g 
   gone =
       let once = ap (count k) (sym e) ∙ member-once g k q (w .low) here in
       set-queue (s .queues) q _ (g .sizes .queues) (omega (arith, w .low)) ∙ ap (without k) e
-      ∙ without-mid k A B (omega (arith, once, count-append k A (k ∷ B), count-hit k k B refl))
+      ∙ without-at k A B (omega (arith, once, count-append k A (k ∷ B), count-hit k k B refl))
 
   turned : Shape (f k s) [] 0 × ((D : List ℕ) × (queue (f k s) q ≡ D ++ B))
   turned =

@@ -1,0 +1,5 @@
+pub mod Started
+pub mod Levels
+pub mod Shaped
+pub mod Asked
+pub mod Transferred
