@@ -3,19 +3,15 @@ ghost use Prim.Native.Nat.{_≤_};
 ghost use Rattle.threads.specs.Threads.{Sound};
 ghost use Rattle.tables.specs.State.{read};
 ghost use Rattle.tables.specs.Held.{Shows};
+ghost use Rattle.meaning.specs.Given.{Gives};
 ghost use Rattle.meaning.specs.Services.{asked, transfer};
-ghost use Rattle.channel.specs.Transfer.{Transferring, Gives};
+ghost use Rattle.channel.specs.Transfer.{Transferring};
 use crate::queue;
 use calls::Call;
+use meaning::Given;
 use scheduler::free;
 use tables::Request;
 use tables::Tables;
-
-// The tables after READ or WRITE, and the request block that it took.
-pub struct Asked {
-    pub tables: Tables,
-    pub block: u8,
-}
 
 // The request block r is taken for the caller's request, in no queue yet.
 fn ask(t: Tables, r: u8, c: Call) -> Tables
@@ -35,7 +31,7 @@ fn ask(t: Tables, r: u8, c: Call) -> Tables
 }
 
 // The lowest free request block enters the channel queue by the caller's level, then arrival. An empty channel takes the first at once.
-pub fn transfer(t: Tables, c: Call) -> Asked
+pub fn transfer(t: Tables, c: Call) -> Given
     requires { ⌜ Sound (t .threads) × Transferring (read t) c ⌝ }
     ensures { λ r. ⌜ Gives r (transfer (read t) c) ⌝ }
 {
@@ -43,8 +39,8 @@ pub fn transfer(t: Tables, c: Call) -> Asked
     let taken = ask(t, r, c);
     let entered = queue::enter(taken, r);
     let started = queue::next(entered);
-    Asked {
+    Given {
         tables: started,
-        block: r,
+        result: r,
     }
 }

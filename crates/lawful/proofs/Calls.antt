@@ -64,7 +64,7 @@ module _ {s : State} (g : Lawful s) (m : ℕ) (known : m < s .directory .modules
           requested = refl;
         }) (g .rest)
 
-  new-apart : 0 ≢ k
+  pub new-apart : 0 ≢ k
   new-apart z = let b = g .shape .blank in omega (arith, z, least-some (s .idle) 25 (omega arith) (b .idle) some (b .idle-none))
 
   pub made-settled : Settled (madeReady (created s k m 0) k)
@@ -98,15 +98,15 @@ module _ {s : State} {k : ℕ} {h : List ℕ} {e : ℕ} {c : Call} (i : InHand s
       (λ z. rw (z .0) (event-rest i (c .value) (c .events) (w .set (z .1)) (not-yet (z .1)) r))
       (λ z. rw (z .0) (time-rest i (dueOf s c) r)) (tested (c .kind) 1)
 
-condition-new : {s : State} {c : Call} (k m : ℕ) → Condition s c → Condition (created s k m 0) c
+pub condition-new : {s : State} {c : Call} (k m : ℕ) → Condition s c → Condition (created s k m 0) c
 unfolding created
-condition-new k m w = record { set = w .set }
+condition-new k m w = record { kind = w .kind; set = w .set; time = w .time }
 
-holds-new : (s : State) (k m : ℕ) (c : Call) → holds s c ≡ false → holds (created s k m 0) c ≡ false
+pub holds-new : (s : State) (k m : ℕ) (c : Call) → holds s c ≡ false → holds (created s k m 0) c ≡ false
 unfolding holds created enough dueOf
 holds-new s k m c f = f
 
-holds-stopped : (s : State) (c : Call) → holds s c ≡ false → holds (withRunning s 0) c ≡ false
+pub holds-stopped : (s : State) (c : Call) → holds s c ≡ false → holds (withRunning s 0) c ≡ false
 unfolding holds enough dueOf
 holds-stopped s c f = f
 
@@ -146,6 +146,6 @@ wait-keeps {s} c g n w = go (holds s c) refl
     go true f = settled (g .shape) (g .rest)
     go false f =
         let i = stop (g .shape) n in
-        let w′ : Condition (withRunning s 0) c = record { set = w .set } in
+        let w′ : Condition (withRunning s 0) c = record { kind = w .kind; set = w .set; time = w .time } in
         let f′ = holds-stopped s c f in
         settled (wait-shape i w′ f′) (wait-rest i w′ f′ (rest-stopped s 0 (g .rest)))

@@ -14,19 +14,19 @@ use Rattle.lawful.specs.Shape.{Passing}
 use Rattle.lawful.proofs.Truth.{both}
 
 module _ (d : Directory) (e : directoryPasses d ≡ true) where
-  rows : (modulesGood d ≡ true) × (usedGood d ≡ true)
+  rows : (modulesGood d ≡ true) × (everyGood d ≡ true) × (usedGood d ≡ true)
   unfolding directoryPasses directoryRows
   rows =
       let four = row-passed 4 (modulesGood d) _ (omega arith) (eqb-true _ 0 e) in
       let five = row-passed 5 (everyGood d) _ (omega arith) (four .1) in
       let six = row-passed 6 (usedGood d) _ (omega arith) (five .1) in
-      (four .0, six .0)
+      (four .0, five .0, six .0)
 
   good : (m : ℕ) → m < d .modules → entryGood (entryAt d m) ≡ true
   unfolding entriesPass
   good m low =
       let z : 0 + m ≡ m = omega arith in
-      rw z at (all-at (λ i. entryGood (entryAt d (0 + i))) (d .modules) m (rows .1) low)
+      rw z at (all-at (λ i. entryGood (entryAt d (0 + i))) (d .modules) m (rows .2) low)
 
   -- of a used entry: its level is 1 to 3, and it has at most 64 units
   entry-good : (m : ℕ) → m < d .modules → (1 ≤ entryAt d m .level) × (entryAt d m .level ≤ 3) × (entryAt d m .units ≤ 64)
@@ -42,6 +42,7 @@ module _ (d : Directory) (e : directoryPasses d ≡ true) where
       record {
         passes = e;
         modules = leb-true (d .modules) 32 (both (leb 1 (d .modules)) (leb (d .modules) 32) (rows .0) .1);
+        every = leb-true 1 (d .every) (rows .1);
         best = λ m low. entry-good m low .0;
         worst = λ m low. entry-good m low .1;
         units = λ m low. entry-good m low .2;

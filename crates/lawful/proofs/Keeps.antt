@@ -34,19 +34,29 @@ pick : (a n : ℕ) {x y : Effect} → (a ≡ n → Kept x) → (a ≢ n → Kept
 pick a n f g = ⊎-elim (λ z. rw (z .0) (f (z .1))) (λ z. rw (z .0) (g (z .1))) (tested a n)
 
 module _ {s : State} {c : Call} (g : Lawful s) (a : Accepts s c) where
-  needs : (n : ℕ) → needsTask n ≡ true → c .code ≡ n → s .running ≢ 0
+  pub needs : (n : ℕ) → needsTask n ≡ true → c .code ≡ n → s .running ≢ 0
   needs n e z = a .running (ap needsTask z ∙ e)
 
-  one-of : (l : List ℕ) (n : ℕ) → n among l ≡ true → c .code ≡ n → c .code among l ≡ true
+  pub one-of : (l : List ℕ) (n : ℕ) → n among l ≡ true → c .code ≡ n → c .code among l ≡ true
   one-of l n e z = ap (λ (x : ℕ). x among l) z ∙ e
 
   transfers : (n : ℕ) → n among (13 ∷ 14 ∷ []) ≡ true → (13 ≤ n) × (n ≤ 14) → needsTask n ≡ true → c .code ≡ n → Settled (transfer s c .state)
   transfers n e b t z =
       let o = one-of (13 ∷ 14 ∷ []) n e z in
-      transfer-keeps c g (needs n t z) (a .spare o) (a .device o) (rw z b) (a .bytes o)
+      transfer-keeps c g (needs n t z) (a .spare o) (a .device o) (rw z b) (a .bytes o .0)
 
   starts : c .code among (5 ∷ 7 ∷ 35 ∷ []) ≡ true → Settled (start s c .state)
   starts o = start-keeps c g (a .program o) (a .block o)
+
+  no : (n : ℕ) → c .code ≢ n → eqb n (c .code) ≡ false
+  no n d = ne-eqb n (c .code) (λ z. d (sym z))
+
+  -- a call of no other code is operator start
+  pub last : c .code ≢ 1 → c .code ≢ 5 → c .code ≢ 6 → c .code ≢ 7 → c .code ≢ 8 → c .code ≢ 9 → c .code ≢ 10 → c .code ≢ 12 → c .code ≢ 13 → c .code ≢ 14 → c .code ≢ 15
+      → c .code ≢ 32 → c .code ≢ 33 → c .code ≢ 34 → c .code among (5 ∷ 7 ∷ 35 ∷ []) ≡ true
+  unfolding known _among_
+  last n1 n5 n6 n7 n8 n9 n10 n12 n13 n14 n15 n32 n33 n34 =
+      rw (no 5 n5, no 7 n7) (rw (no 1 n1, no 5 n5, no 6 n6, no 7 n7, no 8 n8, no 9 n9, no 10 n10, no 12 n12, no 13 n13, no 14 n14, no 15 n15, no 32 n32, no 33 n33, no 34 n34) at (a .known))
 
   effect-kept : Kept (effect s c)
   unfolding effect needsTask known _among_
@@ -56,7 +66,7 @@ module _ {s : State} {c : Call} (g : Lawful s) (a : Accepts s c) where
       pick (c .code) 6 (λ z. record { kept = end-keeps c g (needs 6 refl z) }) (λ n6.
       pick (c .code) 7 (λ z. record { kept = let o = one-of (5 ∷ 7 ∷ 35 ∷ []) 7 refl z in schedule-keeps c g (a .program o) (a .block o) (a .condition (one-of (7 ∷ 8 ∷ []) 7 refl z)) }) (λ n7.
       pick (c .code) 8 (λ z. record { kept = wait-keeps c g (needs 8 refl z) (a .condition (one-of (7 ∷ 8 ∷ []) 8 refl z)) }) (λ n8.
-      pick (c .code) 9 (λ z. record { kept = signal-keeps c g (a .event (one-of (9 ∷ 10 ∷ []) 9 refl z)) }) (λ n9.
+      pick (c .code) 9 (λ z. record { kept = signal-keeps c g (a .event (one-of (9 ∷ 10 ∷ []) 9 refl z) .1) }) (λ n9.
       pick (c .code) 10 (λ z. record { kept = test-event-keeps c g }) (λ n10.
       pick (c .code) 12 (λ z. record { kept = dispatch-check-keeps c g (needs 12 refl z) }) (λ n12.
       pick (c .code) 13 (λ z. record { kept = transfers 13 refl (omega arith) refl z }) (λ n13.
@@ -66,15 +76,11 @@ module _ {s : State} {c : Call} (g : Lawful s) (a : Accepts s c) where
       pick (c .code) 33 (λ z. record { kept = transferred-keeps c g (a .channel z) }) (λ n33.
       pick (c .code) 34 (λ z. record { kept = program-check-keeps c g (needs 34 refl z) }) (λ n34.
       record { kept = starts (last n1 n5 n6 n7 n8 n9 n10 n12 n13 n14 n15 n32 n33 n34) }))))))))))))))
-    where
-      no : (n : ℕ) → c .code ≢ n → eqb n (c .code) ≡ false
-      no n d = ne-eqb n (c .code) (λ z. d (sym z))
 
-      last : c .code ≢ 1 → c .code ≢ 5 → c .code ≢ 6 → c .code ≢ 7 → c .code ≢ 8 → c .code ≢ 9 → c .code ≢ 10 → c .code ≢ 12 → c .code ≢ 13 → c .code ≢ 14 → c .code ≢ 15
-          → c .code ≢ 32 → c .code ≢ 33 → c .code ≢ 34 → c .code among (5 ∷ 7 ∷ 35 ∷ []) ≡ true
-      last n1 n5 n6 n7 n8 n9 n10 n12 n13 n14 n15 n32 n33 n34 =
-          rw (no 5 n5, no 7 n7) (rw (no 1 n1, no 5 n5, no 6 n6, no 7 n7, no 8 n8, no 9 n9, no 10 n10, no 12 n12, no 13 n13, no 14 n14, no 15 n15, no 32 n32, no 33 n33, no 34 n34) at (a .known))
+  -- before the dispatch
+  pub settles : Settled (effect s c .state)
+  settles = effect-kept .kept
 
   -- the law: an accepted call, whole
   pub keeps : Lawful (dispatched (effect s c .state))
-  keeps = dispatch (effect-kept .kept)
+  keeps = dispatch settles

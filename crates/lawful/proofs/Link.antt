@@ -82,7 +82,7 @@ module _ {s : State} (g : Lawful s) (m : ℕ) (known : m < s .directory .modules
   k = least (s .idle)
 
   -- the caller is not the block that is free
-  caller-apart : s .running ≢ k
+  pub caller-apart : s .running ≢ k
   caller-apart z =
       let b = g .shape .blank in
       let r = runs-stands (g .shape) n in
@@ -111,7 +111,7 @@ module _ {s : State} (g : Lawful s) (m : ℕ) (known : m < s .directory .modules
       let w = runs-stands (child-hand .shape) n in
       λ a b. w .fields .needs a b .0 (runs-place (child-hand .shape) n)
 
-  linked : InHand (stopped child InLink) k [] 0
+  pub linked : InHand (stopped child InLink) k [] 0
   unfolding stopped created
   linked =
       record {

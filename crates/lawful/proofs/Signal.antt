@@ -131,7 +131,7 @@ walked [] s w = w
 walked (a ∷ l) s w = walked l (woken a s) (walk-step w)
 
 -- ---- SIGNAL on.
-added-le : (w n d u : ℕ) → bit d n ≡ 1 → ((v : ℕ) → bit w v ≤ bit d v) → bit (adding w n) u ≤ bit d u
+pub added-le : (w n d u : ℕ) → bit d n ≡ 1 → ((v : ℕ) → bit w v ≤ bit d v) → bit (adding w n) u ≤ bit d u
 added-le w n d u e f =
     ⊎-elim (λ z. rw (z .1) (omega (arith, added-same w n, e))) (λ z. omega (arith, added-other w n u (z .1), f u)) (tested u n)
 

@@ -18,6 +18,7 @@ use Rattle.image.specs.Load.{directoryOf, loadOf}
 use Rattle.image.proofs.Loads.{good, load-accepted, check-is-load}
 use Rattle.tables.specs.declared.Tables.{Tables}
 use Rattle.tables.specs.State.{State, read, tabled}
+use Rattle.calls.specs.Calls.{callOf}
 use Rattle.meaning.specs.Refusals.{refusals}
 use Rattle.meaning.specs.Rules.{directoryPasses, pointersSound, stateRules, rulesHold}
 use Rattle.meaning.specs.Step.{refused, accepted, stepOf, tablesOf}
@@ -30,7 +31,7 @@ use Rattle.lawful.proofs.Directory.{passing}
 use Rattle.lawful.proofs.FromRules.{rules-lawful}
 use Rattle.lawful.proofs.ToRules.{lawful-rules}
 use Rattle.lawful.proofs.Loaded.{load-lawful}
-use Rattle.lawful.proofs.Accepted.{accepts}
+use Rattle.lawful.proofs.Accepted.{accepts, rows-left}
 use Rattle.lawful.proofs.Keeps.{keeps}
 
 -- ---- The test of the rules, and lawful tables.
@@ -81,7 +82,7 @@ tabled-lawful {s} g =
 pub step-lawful : (t : Tables) (bytes : List ℕ) → LawfulTables t → LawfulTables (stepOf t bytes .tables)
 unfolding stepOf accepted refused
 step-lawful t bytes g =
-    ⊎-elim (λ z. rw (z .0) (tabled-lawful (keeps (g .state) (accepts t bytes (z .1) (g .state))))) (λ z. rw (z .0) g) (tested (firstOf (refusals t bytes)) 0)
+    ⊎-elim (λ z. rw (z .0) (tabled-lawful (keeps (g .state) (accepts (read t) (callOf bytes) (rows-left t bytes (z .1) .2) (g .state))))) (λ z. rw (z .0) g) (tested (firstOf (refusals t bytes)) 0)
 
 pub step-keeps : (t : Tables) (bytes : List ℕ) → Typed t → rulesHold t ≡ true → rulesHold (stepOf t bytes .tables) ≡ true
 step-keeps t bytes y e = tables-rules _ (step-lawful t bytes (rules-tables t y e))

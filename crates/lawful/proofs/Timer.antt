@@ -97,16 +97,16 @@ timer-keeps {s} c g = go (eqb ((s .clock + 1) % s .directory .every) 0)
 
 -- ---- DISPATCH CHECK.
 module _ {s : State} (g : Lawful s) (n : s .running ≢ 0) where
-  caller : InHand (withRunning s 0) (s .running) [] 0
+  pub caller : InHand (withRunning s 0) (s .running) [] 0
   caller = stop (g .shape) n
 
   abbrev level : ℕ
   level = levelOf s (s .running)
 
-  best : 1 ≤ level
+  pub best : 1 ≤ level
   best = level-best (g .shape) (caller .some) (caller .low) (λ z. omega (arith, z, runs-place (g .shape) n))
 
-  worst : level ≤ 3
+  pub worst : level ≤ 3
   worst = level-worst (g .shape) (caller .some) (caller .low) (λ z. omega (arith, z, runs-place (g .shape) n))
 
   abbrev front : List ℕ

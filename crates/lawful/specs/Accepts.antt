@@ -2,29 +2,32 @@
 use mathlib.Core.Bool.{true}
 use mathlib.Core.Path.{_≡_}
 use mathlib.Core.Logic.{_≢_}
-use Prim.Native.Nat.{_≤_, _<_}
+use Prim.Native.Nat.{_+_, _≤_, _<_}
 use lib.Bits.{bitAnd}
 use Rattle.words.specs.Words.{size}
 use Rattle.tables.specs.State.{State, requestAt}
 use Rattle.calls.specs.declared.Call.{Call}
 use Rattle.calls.specs.Calls.{known, needsTask}
-use Rattle.meaning.specs.Refusals.{starts, tellsEvents, transfers, waits}
+use Rattle.meaning.specs.Refusals.{starts, tellsEvents, transfers, waits, clockEnd}
 use Rattle.lawful.specs.Shape.{bit}
 
--- 13 and 14, of a call with a condition
+-- 13, 14 and 15, of a call with a condition
 pub record Condition (s : State) (c : Call) : Type 0 where
+  pub kind : c .kind ≤ 3
   pub set : c .kind ≡ 1 → (bitAnd (c .events) (s .directory .defined) ≡ c .events) × (1 ≤ c .value) × (c .value ≤ size (c .events))
+  pub time : c .kind ≡ 3 → s .clock + c .amount ≤ clockEnd
 
--- 24, 11, 12, 16, 19, 13 and 14, 22, 23, 17, 18, 20
+-- 24, 11, 12, 16, 19, 13 to 15, 22, 23, 17, 18, 20, 21
 pub record Accepts (s : State) (c : Call) : Type 0 where
   pub known : known (c .code) ≡ true
   pub running : needsTask (c .code) ≡ true → s .running ≢ 0
   pub program : starts c ≡ true → c .number < s .directory .modules
   pub block : starts c ≡ true → s .idle ≢ 0
-  pub event : tellsEvents c ≡ true → bit (s .directory .defined) (c .number) ≡ 1
+  pub event : tellsEvents c ≡ true → (c .number ≤ 63) × (bit (s .directory .defined) (c .number) ≡ 1)
   pub condition : waits c ≡ true → Condition s c
   pub device : transfers c ≡ true → c .number ≤ 249
-  pub bytes : transfers c ≡ true → 1 ≤ c .amount
+  pub bytes : transfers c ≡ true → (1 ≤ c .amount) × (c .amount ≤ 65535)
   pub spare : transfers c ≡ true → s .spare ≢ 0
   pub held : c .code ≡ 15 → (1 ≤ c .number) × (c .number ≤ 16) × (requestAt s (c .number) .place ≢ 0) × (requestAt s (c .number) .owner ≡ s .running)
   pub channel : c .code ≡ 33 → s .channel ≢ 0
+  pub clock : c .code ≡ 32 → s .clock ≢ clockEnd

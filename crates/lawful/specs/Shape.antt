@@ -120,6 +120,7 @@ pub record Ranked (l : List Task) : Type 0 where
 pub record Passing (d : Directory) : Type 0 where
   pub passes : directoryPasses d ≡ true
   pub modules : d .modules ≤ 32
+  pub every : 1 ≤ d .every
   pub best : (m : ℕ) → m < d .modules → 1 ≤ entryAt d m .level
   pub worst : (m : ℕ) → m < d .modules → entryAt d m .level ≤ 3
   pub units : (m : ℕ) → m < d .modules → entryAt d m .units ≤ 64

@@ -3,8 +3,7 @@
 use mathlib.Core.Bool.{Bool, true, false, _||_}
 use mathlib.Core.Path.{_≡_, refl, sym, _∙_}
 use mathlib.Core.List.{List}
-use Prim.Native.Nat.{ℕ, zero}
-use lib.Dec.{eqb}
+use Prim.Native.Nat.{ℕ}
 use borrow.Author.Tests.{eq-eqb}
 use Rattle.threads.specs.Threads.{walk, queuesOf, threaded, row, tab, flat, after, before, counts, count}
 use Rattle.words.specs.Words.{_among_, below, oneTo, allOf, howMany, sameList, upBy, standing, each-holds}

@@ -3,6 +3,7 @@ pub mod Ready
 pub mod Finish
 pub mod Channel
 pub mod Services
+pub mod Given
 pub mod Rules
 pub mod Refusals
 pub mod Step

@@ -29,7 +29,7 @@ returns : tie.Need-returns
 unfolding transfer
 returns c =
     let b = c .before .before .before .lowest .ensures in
-    record { shows = rw (← b, ← c .before .before .ask .ensures .reads, ← c .before .enter .ensures .reads) (c .next .ensures); block = b }
+    record { shows = rw (← b, ← c .before .before .ask .ensures .reads, ← c .before .enter .ensures .reads) (c .next .ensures); result = b }
 
 pub transfer-spec : {M : Type 1} → statement M
 transfer-spec =

@@ -1,0 +1,5 @@
+pub mod Starts
+pub mod Coded
+pub mod Ticks
+pub mod Yields
+pub mod Whole
