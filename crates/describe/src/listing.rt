@@ -12,20 +12,9 @@ pub fn directory(d: Directory) {
     if d.defined == 0 {
         saying::text(b" none");
     }
-    events(d.defined);
+    saying::members(d.defined);
     saying::text(b"\n");
     modules(d);
-}
-
-// The events of a set, by number.
-fn events(set: u64) {
-    let mut e: u64 = 0;
-    while e < 64 {
-        if (set >> e) % 2 == 1 {
-            saying::field(b" ", e);
-        }
-        e += 1;
-    }
 }
 
 // The used entries, a line for each module.

@@ -28,21 +28,8 @@ fn describe(bytes: &[u8]) {
 fn refused(number: u8) {
     saying::field(b"The image is refused by ", number as u64);
     saying::text(b": ");
-    meaning(number);
+    explain::refused::image(number);
     saying::text(b".\n");
-}
-
-// What a load refusal means.
-fn meaning(number: u8) {
-    match number {
-        1 => saying::text(b"it has the wrong length"),
-        2 => saying::text(b"its check is wrong"),
-        3 => saying::text(b"its form is not known"),
-        4 => saying::text(b"M, the number of modules, is wrong"),
-        5 => saying::text(b"N, the cycles between looks at the time queue, is wrong"),
-        6 => saying::text(b"a used entry has a bad level, units or flags"),
-        _ => saying::text(b"a byte that has to be zero isn't"),
-    }
 }
 
 fn accepted(found: Directory, bytes: &[u8]) {

@@ -1,0 +1,147 @@
+-- Counting into two sets: `one` has what was met at least once, `two` what was met at least twice. So children are counted, and core units.
+use mathlib.Core.Bool.{Bool, true, false, not, _&&_, _||_, Bool·beq, true≢false}
+use mathlib.Core.Path.{_≡_, refl, sym, ap, ap₂, _∙_}
+use mathlib.Core.Logic.{⊎-elim}
+use mathlib.Core.List.{List, [], _∷_, _++_}
+use Prim.Native.Nat.{ℕ, zero, suc, _+_, _≤_, _<_, _^_}
+use native.Mathlib.Numerals.{add-one}
+use native.Mathlib.Omega.{arith}
+use lib.Bits.{bitAnd, bitOr}
+use lib.Dec.{eqb, leb}
+use borrow.Author.Tests.{eq-eqb, ne-eqb, eqb-true, le-leb}
+use Rattle.words.specs.Words.{if_then_else_, below, oneTo, allOf, howMany, has}
+use Rattle.words.proofs.Members.{has-none, has-meet, has-union, has-above}
+use Rattle.words.proofs.Subsets.{same-members}
+use Rattle.words.proofs.Lists.{all-at, all-shown}
+use Rattle.words.proofs.Places.{under-or-from}
+use Rattle.lawful.proofs.Truth.{and-of, both}
+use Rattle.rules.proofs.Tests.{same-test, fails-right}
+use Rattle.rules.specs.Links.{Tally}
+
+-- ---- how many
+
+many-append : (p : ℕ → Bool) (l m : List ℕ) → howMany p (l ++ m) ≡ howMany p l + howMany p m
+unfolding howMany
+many-append p [] m = omega arith
+many-append p (a ∷ l) m = omega (arith, many-append p l m)
+
+many-next : (p : ℕ → Bool) (k : ℕ) → howMany p (oneTo (k + 1)) ≡ howMany p (oneTo k) + (if p (k + 1) then 1 else 0)
+unfolding oneTo howMany
+many-next p k = rw (add-one k) (omega (arith, many-append p (oneTo k) (suc k ∷ [])))
+
+many-zero : (p : ℕ → Bool) → howMany p (oneTo 0) ≡ 0
+unfolding oneTo howMany
+many-zero p = refl
+
+many-none : (p : ℕ → Bool) (n : ℕ) → ((k : ℕ) → 1 ≤ k → k ≤ n → p k ≡ false) → howMany p (oneTo n) ≡ 0
+many-none p zero f = many-zero p
+many-none p (suc n) f =
+    ap (λ (m : ℕ). howMany p (oneTo m)) (sym (add-one n)) ∙ many-next p n
+    ∙ rw (ap p (add-one n) ∙ f (suc n) (omega arith) (omega arith), many-none p n (λ k l h. f k l (omega arith)))
+
+-- ---- at least one, at least two
+
+one-more : (n : ℕ) (b : Bool) → (leb 1 n || b) ≡ leb 1 (n + (if b then 1 else 0))
+one-more zero true = refl
+one-more zero false = refl
+one-more (suc n) true = rw (le-leb 1 (suc n) (omega arith), le-leb 1 (suc n + 1) (omega arith))
+one-more (suc n) false = rw (le-leb 1 (suc n) (omega arith), le-leb 1 (suc n + 0) (omega arith))
+
+two-more : (n : ℕ) (b : Bool) → (leb 2 n || (leb 1 n && b)) ≡ leb 2 (n + (if b then 1 else 0))
+two-more zero true = refl
+two-more zero false = refl
+two-more (suc zero) true = refl
+two-more (suc zero) false = refl
+two-more (suc (suc n)) true = rw (le-leb 2 (suc (suc n)) (omega arith), le-leb 2 (suc (suc n) + 1) (omega arith))
+two-more (suc (suc n)) false = rw (le-leb 2 (suc (suc n)) (omega arith), le-leb 2 (suc (suc n) + 0) (omega arith))
+
+too-many : (n : ℕ) (b : Bool) → 2 ≤ n → (Bool·beq (leb 1 n) b && not (leb 2 n)) ≡ eqb n (if b then 1 else 0)
+too-many n true h = fails-right (Bool·beq (leb 1 n) true) (not (leb 2 n)) (ap not (le-leb 2 n h)) ∙ sym (ne-eqb n 1 (omega arith))
+too-many n false h = fails-right (Bool·beq (leb 1 n) false) (not (leb 2 n)) (ap not (le-leb 2 n h)) ∙ sym (ne-eqb n 0 (omega arith))
+
+-- exactly one or none, told by the two
+exactly : (n : ℕ) (b : Bool) → (Bool·beq (leb 1 n) b && not (leb 2 n)) ≡ eqb n (if b then 1 else 0)
+exactly zero true = refl
+exactly zero false = refl
+exactly (suc zero) true = refl
+exactly (suc zero) false = refl
+exactly (suc (suc n)) b = too-many (suc (suc n)) b (omega arith)
+
+-- ---- the two sets
+
+module _ {p : ℕ → ℕ → Bool} where
+  pub tally-start : Tally p 0 0 0
+  tally-start =
+      record { once = λ u. has-none u ∙ ap (leb 1) (sym (many-zero (p u))); twice = λ u. has-none u ∙ ap (leb 2) (sym (many-zero (p u))) }
+
+  module _ {k one two : ℕ} (t : Tally p k one two) where
+    -- what the next has
+    pub tally-next : (m : ℕ) → ((u : ℕ) → has m u ≡ p u (k + 1)) → Tally p (k + 1) (bitOr one m) (bitOr two (bitAnd one m))
+    tally-next m e =
+        record {
+          once = λ u.
+              has-union one m u ∙ ap₂ (λ (a b : Bool). a || b) (t .once u) (e u)
+              ∙ one-more (howMany (p u) (oneTo k)) (p u (k + 1)) ∙ ap (leb 1) (sym (many-next (p u) k));
+          twice = λ u.
+              has-union two (bitAnd one m) u
+              ∙ ap₂ (λ (a b : Bool). a || b) (t .twice u) (has-meet one m u ∙ ap₂ (λ (a b : Bool). a && b) (t .once u) (e u))
+              ∙ two-more (howMany (p u) (oneTo k)) (p u (k + 1)) ∙ ap (leb 2) (sym (many-next (p u) k));
+        }
+
+    -- the next has nothing
+    pub tally-past : ((u : ℕ) → p u (k + 1) ≡ false) → Tally p (k + 1) one two
+    tally-past e =
+        let same : (u : ℕ) → howMany (p u) (oneTo (k + 1)) ≡ howMany (p u) (oneTo k) = λ u. many-next (p u) k ∙ rw (e u) (omega arith) in
+        record { once = λ u. t .once u ∙ ap (leb 1) (sym (same u)); twice = λ u. t .twice u ∙ ap (leb 2) (sym (same u)) }
+
+pub tally-exactly : {p : ℕ → ℕ → Bool} {n one two : ℕ} → Tally p n one two → (u : ℕ) (b : Bool)
+    → (Bool·beq (has one u) b && not (has two u)) ≡ eqb (howMany (p u) (oneTo n)) (if b then 1 else 0)
+tally-exactly {p} {n} t u b = rw (t .once u, t .twice u) (exactly (howMany (p u) (oneTo n)) b)
+
+-- each unit exactly once where `granted` has it, and else not at all: the sets are `granted` and nothing
+module _ {p : ℕ → ℕ → Bool} {n one two : ℕ} (granted : ℕ) (t : Tally p n one two) (low : granted < 2 ^ 64)
+    (high : (u : ℕ) → 64 ≤ u → (k : ℕ) → 1 ≤ k → k ≤ n → p u k ≡ false) where
+  abbrev exact : ℕ → Bool
+  exact u = eqb (howMany (p u) (oneTo n)) (if has granted u then 1 else 0)
+
+  told : (u : ℕ) → (Bool·beq (has one u) (has granted u) && not (has two u)) ≡ exact u
+  told u = tally-exactly t u (has granted u)
+
+  high-one : (u : ℕ) → 64 ≤ u → (has one u ≡ false) × (has two u ≡ false)
+  high-one u h =
+      let z = many-none (p u) n (high u h) in
+      (t .once u ∙ ap (leb 1) z, t .twice u ∙ ap (leb 2) z)
+
+  same-bool : (a b : Bool) → Bool·beq a b ≡ true → a ≡ b
+  same-bool true true e = refl
+  same-bool true false e = absurd (true≢false (sym e))
+  same-bool false true e = absurd (true≢false (sym e))
+  same-bool false false e = refl
+
+  not-true : (a : Bool) → not a ≡ true → a ≡ false
+  not-true true e = absurd (true≢false (sym e))
+  not-true false e = refl
+
+  beq-same : (a : Bool) → Bool·beq a a ≡ true
+  beq-same true = refl
+  beq-same false = refl
+
+  apart : allOf exact (below 64) ≡ true → (u : ℕ) → (has one u ≡ has granted u) × (has two u ≡ has 0 u)
+  apart e u =
+      ⊎-elim
+      (λ l.
+      let b = both (Bool·beq (has one u) (has granted u)) (not (has two u)) (told u ∙ all-at exact 64 u e l) in
+      (same-bool _ _ (b .0), not-true _ (b .1) ∙ sym (has-none u)))
+      (λ l. (high-one u l .0 ∙ sym (has-above 64 granted u low l), high-one u l .1 ∙ sym (has-none u))) (under-or-from u 64)
+
+  pub tally-end : (eqb two 0 && eqb one granted) ≡ allOf exact (below 64)
+  tally-end =
+      same-test (eqb two 0 && eqb one granted) (allOf exact (below 64))
+      (λ e.
+      let b = both (eqb two 0) (eqb one granted) e in
+      let x : two ≡ 0 = eqb-true two 0 (b .0) in
+      let y : one ≡ granted = eqb-true one granted (b .1) in
+      all-shown exact 64 (λ u l. sym (told u) ∙ rw (x, y, has-none u) (and-of _ _ (beq-same (has granted u)) refl)))
+      (λ e.
+      and-of _ _ (eq-eqb two 0 (same-members two 0 (λ u. apart e u .1)))
+      (eq-eqb one granted (same-members one granted (λ u. apart e u .0))))

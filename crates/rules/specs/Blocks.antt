@@ -1,0 +1,91 @@
+-- The rules over one block, gathered: what a task block and a request block pass in one turn of a loop.
+use mathlib.Core.Bool.{Bool, not, _&&_, _||_, Bool·beq}
+use mathlib.Core.Path.{_≡_}
+use mathlib.Core.List.{List}
+use Prim.Native.Nat.{ℕ, _≤_, _^_}
+use lib.Bits.{bitAnd}
+use lib.Dec.{eqb, leb, ltb}
+use lib.ListN.{getD}
+use Rattle.words.specs.Words.{if_then_else_, _implies_, allOf, someOf, oneTo, standing, has, size}
+use Rattle.tables.specs.declared.Task.{Task}
+use Rattle.tables.specs.declared.Request.{Request}
+use Rattle.tables.specs.declared.Tables.{Tables}
+use Rattle.tables.specs.Blocks.{Free, Running, InCore, InEvent, InTime, InCheck, Ending, Queued, OnChannel, NotGranted}
+use Rattle.tables.specs.State.{State, channelQueue, node, taskAt, requestAt, poolAt, levelOf, unitsOf, read}
+use Rattle.meaning.specs.Rules.{directoryPasses, taskInRange, requestInRange, queueFor, blankTask, blankRequest, clearTask, clearRequest, coreHeld, chainsEnd, busy, coreWaits, queuesInOrder, linked, channelBusy}
+
+-- the marks say where each block stands
+pub record Marked (t : Tables) (m : List ℕ) : Type 0 where
+  pub stands : (y : ℕ) → y ≤ 40 → getD m y 0 ≡ standing y (read t .queues)
+
+-- ---- A task block, of a module of so many units.
+
+-- its fields by themselves: "every field in range", "any field with no meaning .. is zero", "core waiters still need core, and besides them only event
+-- and time waiters may"
+abbrev pub fieldsRight : ℕ → ℕ → Task → Bool
+fieldsRight modules units x =
+    let needs = ltb 0 units && eqb (x .core) NotGranted in
+    taskInRange modules units x && clearTask units x
+    && ((eqb (x .place) InCore implies needs)
+    && ((not (eqb (x .place) Free) && needs) implies (eqb (x .place) InCore || eqb (x .place) InEvent || eqb (x .place) InTime)))
+
+-- its place: the queue in which it stands is that of its place, it runs where it is the one that runs, it is free where the free set has it
+abbrev pub placeRight : ℕ → ℕ → Bool → Bool → Task → Bool
+placeRight stands level runs free x =
+    eqb stands (queueFor (x .place) level) && Bool·beq runs (eqb (x .place) Running) && Bool·beq free (eqb (x .place) Free)
+
+-- an event waiter: "event waiters pass 13 and 14", "No event waiter's condition already holds"
+unfoldable pub waiterRight : ℕ → ℕ → Task → Bool
+waiterRight defined on x =
+    eqb (x .place) InEvent
+    implies (eqb (bitAnd (x .events) defined) (x .events) && leb 1 (x .count) && leb (x .count) (size (x .events))
+    && not (leb (x .count) (size (bitAnd (x .events) on))))
+
+-- the request q is the task k's, and queued or on the channel
+abbrev pub pends : ℕ → Request → Bool
+pends k q = eqb (q .owner) k && (eqb (q .place) Queued || eqb (q .place) OnChannel)
+
+-- "CHECK waits for an own pending request", "an ending task has one"
+abbrev pub pendingRight : ℕ → Bool → Request → Task → Bool
+pendingRight k some q x = (eqb (x .place) InCheck implies pends k q) && (eqb (x .place) Ending implies some)
+
+unfoldable pub taskPasses : State → ℕ → Bool
+taskPasses s k =
+    let x = taskAt s k in
+    fieldsRight (s .directory .modules) (unitsOf s k) x
+    && placeRight (standing k (s .queues)) (levelOf s k) (eqb (s .running) k) (has (s .idle) k) x
+    && waiterRight (s .directory .defined) (s .on) x
+    && pendingRight k (someOf (λ r. pends k (requestAt s r)) (oneTo 16)) (requestAt s (x .request)) x
+
+-- ---- A request block: its fields, its place, and "a used request's owner is a used task".
+
+abbrev pub requestRight : ℕ → Bool → Bool → Bool → Request → Bool
+requestRight stands on free used q =
+    requestInRange q && clearRequest q
+    && (eqb stands (if eqb (q .place) Queued then channelQueue else 9) && Bool·beq on (eqb (q .place) OnChannel))
+    && Bool·beq free (eqb (q .place) Free)
+    && (not (eqb (q .place) Free) implies used)
+
+unfoldable pub requestPasses : State → ℕ → Bool
+requestPasses s r =
+    let q = requestAt s r in
+    requestRight (standing (node r) (s .queues)) (eqb (s .channel) r) (has (s .spare) r) (not (eqb (taskAt s (q .owner) .place) Free)) q
+
+-- what the loop over the request blocks tells: whether they pass, and the tasks that have a request pending, as a set
+pub record Gathered (s : State) (ok : Bool) (owners : ℕ) : Type 0 where
+  pub right : ok ≡ allOf (requestPasses s) (oneTo 16)
+  pub some : (k : ℕ) → k ≤ 24 → has owners k ≡ someOf (λ r. pends k (requestAt s r)) (oneTo 16)
+
+-- ---- The first pass: the directory, the numbers of the tables, slot 0, and each block by itself.
+
+unfoldable pub firstPass : State → Bool
+firstPass s =
+    directoryPasses (s .directory) && (leb (s .running) 24 && leb (s .channel) 16) && eqb (bitAnd (s .on) (s .directory .defined)) (s .on)
+    && (ltb (s .idle) (2 ^ 25) && not (has (s .idle) 0) && ltb (s .spare) (2 ^ 17) && not (has (s .spare) 0))
+    && (blankTask (taskAt s 0) && blankRequest (requestAt s 0) && eqb (poolAt s 0) 0)
+    && (allOf (requestPasses s) (oneTo 16) && allOf (taskPasses s) (oneTo 24))
+
+-- ---- The second pass: the rules that go over several blocks.
+
+unfoldable pub secondPass : State → Bool
+secondPass s = coreHeld s && chainsEnd s && busy s && coreWaits s && queuesInOrder s && linked s && channelBusy s

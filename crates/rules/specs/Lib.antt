@@ -1,0 +1,4 @@
+pub mod Walked
+pub mod Blocks
+pub mod Orderly
+pub mod Links

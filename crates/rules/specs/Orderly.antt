@@ -1,0 +1,16 @@
+-- What the first pass has shown of tables, and the rules over queues, links and core take for granted.
+use mathlib.Core.Bool.{true}
+use mathlib.Core.Path.{_≡_}
+use Rattle.threads.specs.Threads.{Sound}
+use Rattle.tables.specs.declared.Tables.{Tables}
+use Rattle.tables.specs.State.{read}
+use Rattle.meaning.specs.Rules.{directoryPasses, inRange, tasksInPlace, requestsInPlace, clear}
+
+-- the pointers are sound, and the directory, the fields and the places of the blocks keep their rules
+pub record Orderly (t : Tables) : Type 0 where
+  pub sound : Sound (t .threads)
+  pub directory : directoryPasses (t .directory) ≡ true
+  pub range : inRange (read t) ≡ true
+  pub tasks : tasksInPlace (read t) ≡ true
+  pub requests : requestsInPlace (read t) ≡ true
+  pub clear : clear (read t) ≡ true
