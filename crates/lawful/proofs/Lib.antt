@@ -59,4 +59,5 @@ pub mod Pointers
 pub mod FromRules
 pub mod ToRules
 -- Demand 3.
+pub mod Results
 pub mod Steps

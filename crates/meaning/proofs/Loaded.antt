@@ -1,6 +1,6 @@
 -- The table rules hold of the tables of every image that loads. No block is in use, so each rule but two computes, whatever the directory is:
 -- the directory passes because it was loaded, and a free block has no core whatever its module's units are.
-use mathlib.Core.Bool.{Bool, true, false, _||_}
+use mathlib.Core.Bool.{true, false, or-true}
 use mathlib.Core.Path.{_≡_, refl, sym, _∙_}
 use mathlib.Core.List.{List}
 use Prim.Native.Nat.{ℕ}
@@ -31,10 +31,6 @@ unfolding loaded queuesOf threaded walk row tab flat after before
 read-loaded d = refl
 
 -- A free block has no core, whatever its module's units are.
-or-true : (a : Bool) → (a || true) ≡ true
-or-true true = refl
-or-true false = refl
-
 free-clear : (d : Directory) → rules.clear (loaded d) ≡ true
 unfolding loaded rules.clear allOf oneTo
 free-clear d = rw or-true
