@@ -25,6 +25,7 @@ pub enum Arrival {
 }
 
 // The three numbers of an answer: refusal (0 if accepted), result, running task afterwards (0 if idle).
+#[repr(C)]
 pub struct Answer {
     pub refusal: u8,
     pub result: u8,
@@ -46,6 +47,32 @@ pub fn read(bytes: &[u8]) -> Arrival
         amount: words::number(bytes, 4, 4) as u32,
         events: words::number(bytes, 8, 8),
     })
+}
+
+// The 16 bytes of a call: reading them gives the call again.
+pub fn write(call: Call) -> [u8; 16]
+    ensures { λ r. ⌜ arrival r ≡ Arrival.Came call ⌝ }
+{
+    let amount = call.amount as u64;
+    let events = call.events;
+    [
+        call.code,
+        call.kind,
+        call.number,
+        call.value,
+        words::digit(amount, 0),
+        words::digit(amount, 1),
+        words::digit(amount, 2),
+        words::digit(amount, 3),
+        words::digit(events, 0),
+        words::digit(events, 1),
+        words::digit(events, 2),
+        words::digit(events, 3),
+        words::digit(events, 4),
+        words::digit(events, 5),
+        words::digit(events, 6),
+        words::digit(events, 7),
+    ]
 }
 
 // The numbers of an answer while `running` is the running task; with refusal 9 no task is named.

@@ -41,7 +41,7 @@ listed r = r .refusal ∷ r .result ∷ r .running ∷ []
 abbrev whole : ℕ → ℕ → ℕ → Answer
 whole a b c = record { refusal = a; result = b; running = c }
 
-one-answer : (r s : Answer) (ns : List ℕ) → listed r ≡ ns → listed s ≡ ns → r ≡ s
+pub one-answer : (r s : Answer) (ns : List ℕ) → listed r ≡ ns → listed s ≡ ns → r ≡ s
 one-answer r s ns p q =
     let same : whole (r .refusal) (r .result) (r .running) ≡ whole (s .refusal) (s .result) (s .running) = cc in
     same

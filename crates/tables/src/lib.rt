@@ -16,6 +16,7 @@ use threads::Threads;
 // place: 0 free, 1 running, 2 ready, 3 core queue, 4 event queue, 5 time queue, 6 in LINK, 7 in CHECK, 8 ending.
 // program: the number of its module. core: 0 not granted, 1 holds its run, from `start` on, 2 given back.
 // count and events are the condition of an event waiter, time that of a time waiter, request what a task in CHECK waits for.
+#[repr(C)]
 pub struct Task {
     pub place: u8,
     pub program: u8,
@@ -29,6 +30,7 @@ pub struct Task {
 }
 
 // place: 0 free, 1 queued, 2 on the channel, 3 done. command: the call's code, 13 or 14.
+#[repr(C)]
 pub struct Request {
     pub place: u8,
     pub owner: u8,
@@ -38,6 +40,7 @@ pub struct Request {
 }
 
 // idle, spare: the free task blocks and the free request blocks, bit k for block k. pools: the granted units of each level, one bit each.
+#[repr(C)]
 pub struct Tables {
     pub directory: Directory,
     pub clock: u32,

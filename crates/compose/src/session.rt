@@ -1,0 +1,273 @@
+// A session as it is read: the line so far, the image so far, and what each line does.
+use crate::call_lines;
+use crate::call_lines::Composed;
+use crate::image_lines;
+use crate::image_lines::Described;
+use crate::image_lines::Part;
+use crate::messages;
+use crate::scan;
+use crate::scan::Fault;
+use crate::scan::Scan;
+use crate::word;
+use crate::word::Word;
+use image::Directory;
+use image::Outcome;
+use libc::STDOUT_FILENO;
+ghost use Prim.Native.Nat.{_≤_};
+ghost use lib.ListN.{length};
+ghost use Rattle.compose.specs.Words.{Within, Inside};
+ghost use Rattle.compose.specs.Session.{Held};
+
+// The line so far and its number; the image so far, and whether `every` and `events` were given; whether calls have begun; whether to go on.
+pub struct Session {
+    pub line: [u8; 200],
+    pub length: usize,
+    pub number: u64,
+    pub directory: Directory,
+    pub timed: bool,
+    pub listed: bool,
+    pub calling: bool,
+    pub going: bool,
+}
+
+pub fn start() -> Session
+    ensures { λ r. ⌜ Held r ⌝ }
+{
+    let none = image::entries::none();
+    Session {
+        line: [0u8; 200],
+        length: 0,
+        number: 1,
+        directory: none,
+        timed: false,
+        listed: false,
+        calling: false,
+        going: true,
+    }
+}
+
+pub fn stopped(mut s: Session) -> Session
+    requires { ⌜ Held s ⌝ }
+    ensures { λ r. ⌜ Held r ⌝ }
+{
+    s.going = false;
+    s
+}
+
+// Writes bytes, all of them; where that fails, it is said and the session stops.
+fn written(s: Session, bytes: &[u8]) -> Session
+    requires { ⌜ Held s ⌝ }
+    ensures { λ r. ⌜ Held r ⌝ }
+{
+    if io::write_all(STDOUT_FILENO, bytes) {
+        return s;
+    }
+    messages::unwritten();
+    stopped(s)
+}
+
+// A line in which something is wrong.
+fn refused(s: Session, line: &[u8], wrong: Scan) -> Session
+    requires { ⌜ Held s × Inside (now line) 0 wrong ⌝ }
+    ensures { λ r. ⌜ Held r ⌝ }
+{
+    messages::refused(s.number, line, wrong);
+    stopped(s)
+}
+
+// The image ends: it is written, or refused.
+fn closed(mut s: Session, at_end: bool) -> Session
+    requires { ⌜ Held s ⌝ }
+    ensures { λ r. ⌜ Held r ⌝ }
+{
+    if s.calling {
+        return s;
+    }
+    s.calling = true;
+    let directory = s.directory;
+    let mut bytes = [0u8; 512];
+    let outcome = image::write(directory, &mut bytes);
+    let Outcome::Refused(refusal) = outcome else {
+        return written(s, &bytes);
+    };
+    if at_end {
+        messages::refused_at_end(refusal);
+    } else {
+        messages::refused_image(s.number, refusal);
+    }
+    stopped(s)
+}
+
+// A line of the image, done.
+fn described(mut s: Session, line: &[u8], d: Described) -> Session
+    requires { ⌜ Held s × Inside (now line) 0 (d .scan) ⌝ }
+    ensures { λ r. ⌜ Held r ⌝ }
+{
+    let scan = d.scan;
+    if !scan::fine(scan) {
+        return refused(s, line, scan);
+    }
+    let directory = d.directory;
+    s.directory = directory;
+    s
+}
+
+// A call, done: the first one ends the image.
+fn called(s: Session, line: &[u8], c: Composed) -> Session
+    requires { ⌜ Held s × Inside (now line) 0 (c .scan) ⌝ }
+    ensures { λ r. ⌜ Held r ⌝ }
+{
+    let scan = c.scan;
+    if !scan::fine(scan) {
+        return refused(s, line, scan);
+    }
+    let after = closed(s, false);
+    if !after.going {
+        return after;
+    }
+    let call = c.call;
+    written(after, &calls::write(call))
+}
+
+// What is wrong with a line of the image, before the words behind its first are read.
+fn out_of_place(s: Session, part: Part) -> Fault {
+    if s.calling {
+        return Fault::Late;
+    }
+    let again = match part {
+        Part::Every => s.timed,
+        Part::Events => s.listed,
+        _ => false,
+    };
+    if again { Fault::Twice } else { Fault::Fine }
+}
+
+fn image_line(mut s: Session, line: &[u8], w: Word, part: Part) -> Session
+    requires { ⌜ Held s × Within (now line) 0 w ⌝ }
+    ensures { λ r. ⌜ Held r ⌝ }
+{
+    let verb = scan::begun(w, out_of_place(s, part));
+    let directory = s.directory;
+    match part {
+        Part::Every => {
+            s.timed = true;
+            described(s, line, image_lines::every(line, verb, directory))
+        }
+        Part::Events => {
+            s.listed = true;
+            described(s, line, image_lines::events(line, verb, directory))
+        }
+        _ => described(s, line, image_lines::next_module(line, verb, directory)),
+    }
+}
+
+fn call_line(s: Session, line: &[u8], w: Word) -> Session
+    requires { ⌜ Held s × Within (now line) 0 w ⌝ }
+    ensures { λ r. ⌜ Held r ⌝ }
+{
+    let code = call_lines::code(line, w);
+    if code != 0 {
+        let verb = scan::begun(w, Fault::Fine);
+        return called(s, line, call_lines::call(line, verb, code));
+    }
+    if word::named(line, w, b"call") {
+        let verb = scan::begun(w, Fault::Fine);
+        return called(s, line, call_lines::raw(line, verb));
+    }
+    if s.calling {
+        return refused(s, line, scan::begun(w, Fault::NotCall));
+    }
+    refused(s, line, scan::begun(w, Fault::Unknown))
+}
+
+// One line, without its comment.
+fn line_read(s: Session, line: &[u8]) -> Session
+    requires { ⌜ Held s ⌝ }
+    ensures { λ r. ⌜ Held r ⌝ }
+{
+    let w = word::next(line, 0);
+    if w.from == w.to {
+        return s;
+    }
+    let part = image_lines::which(line, w);
+    match part {
+        Part::Other => call_line(s, line, w),
+        _ => image_line(s, line, w, part),
+    }
+}
+
+// The first bytes of a line's buffer are a line: it is read up to its comment.
+fn line_cut(s: Session, bytes: &[u8], count: usize) -> Session
+    requires { ⌜ Held s × (count ≤ length (now bytes)) ⌝ }
+    ensures { λ r. ⌜ Held r ⌝ }
+{
+    let cut = bytes::scan::find(bytes, 0, count, b'#');
+    line_read(s, &bytes[..cut])
+}
+
+// The same, of a whole buffer.
+fn line_in(s: Session, buffer: &[u8; 200], count: usize) -> Session
+    requires { ⌜ Held s × (count ≤ 200) ⌝ }
+    ensures { λ r. ⌜ Held r ⌝ }
+{
+    line_cut(s, buffer, count)
+}
+
+// The line so far has ended: it is read, and the next begins.
+fn line_ended(s: Session) -> Session
+    requires { ⌜ Held s ⌝ }
+    ensures { λ r. ⌜ Held r ⌝ }
+{
+    let buffer = s.line;
+    let mut after = line_in(s, &buffer, s.length);
+    after.length = 0;
+    after.number = std::num::wrapping_add_u64(after.number, 1);
+    after
+}
+
+// One byte of the text.
+fn taken(mut s: Session, byte: u8) -> Session
+    requires { ⌜ Held s ⌝ }
+    ensures { λ r. ⌜ Held r ⌝ }
+{
+    if byte == b'\n' {
+        return line_ended(s);
+    }
+    let at = s.length;
+    if 200 <= at {
+        let none = Word { from: 0, to: 0 };
+        return refused(s, b"", scan::begun(none, Fault::Long));
+    }
+    s.line[at] = byte;
+    s.length = at + 1;
+    s
+}
+
+// Bytes of the text, as many as came, until one line is refused.
+pub fn feed(s: Session, bytes: &[u8]) -> Session
+    requires { ⌜ Held s ⌝ }
+    ensures { λ r. ⌜ Held r ⌝ }
+{
+    let mut after = s;
+    let mut i: usize = 0;
+    while i < bytes.len() {
+        if !after.going {
+            return after;
+        }
+        after = taken(after, bytes[i]);
+        i += 1;
+    }
+    after
+}
+
+// The text has ended: its last line may have no line end, and an image without calls ends here.
+pub fn finish(s: Session) -> Session
+    requires { ⌜ Held s ⌝ }
+    ensures { λ r. ⌜ Held r ⌝ }
+{
+    let last = line_ended(s);
+    if !last.going {
+        return last;
+    }
+    stopped(closed(last, true))
+}
