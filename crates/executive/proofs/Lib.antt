@@ -1,3 +1,4 @@
 pub mod Begins
 pub mod Broken
+pub mod Lined
 pub mod Unique

@@ -1,7 +1,7 @@
 -- The definitions give what document 01 prints: its session in full, from the bytes of the image and of the calls, and every line either side of the
 -- line. By computation: the checker runs the definitions.
 use mathlib.Core.Path.{_≡_, refl, sym, ap₂, _∙_}
-use mathlib.Core.List.{List, _∷_, _++_, map}
+use mathlib.Core.List.{List, _∷_, _++_}
 use Prim.Native.Nat.{ℕ}
 use lib.Count.{onesIn, trailingZeros}
 use Rattle.threads.specs.Threads.{without, walk, queuesOf, threaded, row, tab, flat, after, before, counts, count}

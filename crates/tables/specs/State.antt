@@ -9,7 +9,7 @@ use Rattle.image.specs.Directory.{noEntry, noDirectory}
 use Rattle.tables.specs.declared.Task.{Task}
 use Rattle.tables.specs.declared.Request.{Request}
 use Rattle.tables.specs.declared.Tables.{Tables}
-use Rattle.tables.specs.Blocks.{taskBlocks, requestBlocks, noTask, noRequest, task, request}
+use Rattle.tables.specs.Blocks.{taskBlocks, requestBlocks, noTask, noRequest}
 
 pub record State : Type 0 where
   pub directory : Directory

@@ -10,7 +10,6 @@ ghost use lib.ListN.{replicate};
 ghost use Rattle.tables.specs.Blocks.{noTask, noRequest};
 ghost use Rattle.tables.specs.State.{state, tabled, loaded, allZero};
 use image::Directory;
-use image::Entry;
 use threads::Threads;
 
 // place: 0 free, 1 running, 2 ready, 3 core queue, 4 event queue, 5 time queue, 6 in LINK, 7 in CHECK, 8 ending.
@@ -66,19 +65,7 @@ pub fn loaded(directory: Directory) -> Tables
 pub fn all_zero() -> Tables
     ensures { λ r. ⌜ r ≡ tabled allZero ⌝ }
 {
-    let entry = Entry {
-        level: 0,
-        units: 0,
-        flags: 0,
-        point: 0,
-    };
-    let directory = Directory {
-        modules: 0,
-        every: 0,
-        defined: 0,
-        entries: [entry; 32],
-    };
-    unused(directory, 0, 0)
+    unused(image::entries::none(), 0, 0)
 }
 
 // The tables of a directory in which nothing is used, with the blocks of two sets free.

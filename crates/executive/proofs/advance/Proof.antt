@@ -3,7 +3,7 @@
 -- `line` makes the answer of it.
 -- All that the proof knows of `step` and `line` is that each meets its contract. No field of the tables is named: the struct's laws come from the module
 -- that the check makes of it.
-use mathlib.Core.Path.{_≡_, refl, ap, subst, _∙_}
+use mathlib.Core.Path.{_≡_, refl, ap, _∙_}
 use Prim.Native.Nat.{ℕ}
 use mathlib.Core.List.{List, [], _∷_}
 use lib.ListN.{length}
@@ -58,7 +58,7 @@ use Rattle.executive.proofs.step as step
 use Rattle.executive.proofs.step.Symbol as step-def
 use Rattle.executive.proofs.step.Symbol.{name as #executive·step}
 use Rattle.executive.proofs.step.Met as step-thm
-use Rattle.executive.proofs.line as line
+use Rattle.executive.proofs.Lined.{vT, isS, isT, Numbered, LineC, to-line, goes-line, LineSaid, line-said}
 use Rattle.executive.proofs.line.Symbol as line-def
 use Rattle.executive.proofs.line.Symbol.{name as #executive·line}
 use Rattle.executive.proofs.line.Met as line-thm
@@ -70,157 +70,118 @@ use Rattle.executive.proofs.advance.Code as code
 abbrev stayed : Stays (advance.ended .signature .params) (advance.ended .kept)
 stayed = (stay-ref (0 ∷ []) tt (plain (λ _. T.the-row)), (stay-none-slice (1 ∷ []) tt (plain (λ _. u8)) yes, tt))
 
--- the machine values of the tables and of a step
-abbrev vT : Tables → Val
-vT = LL.val T.the-type T′.the-laws
-
-abbrev vS : Step → Val
-vS = LL.val S.the-type S′.the-laws
-
--- what whoever holds a Step knows of it, at that machine value, and of its tables
-module _ (r : Step) (u : Val) (is : Is S.the-row r (u ∷ [])) where
-  isS : Is S.the-row r (vS r ∷ [])
-  isS = subst (Is S.the-row r) (LL.tells S.the-type S′.the-laws r (u ∷ []) is) is
-
-  isT : Is T.the-row (r .tables) (vT (r .tables) ∷ [])
-  isT = LL.owed S.the-type S′.the-laws r (u ∷ []) is .0
-
--- the numbers of an answer, in their order
-abbrev listed : Answer → List ℕ
-listed a = a .refusal ∷ a .result ∷ a .running ∷ []
-
--- the contracts that the proof cites
+-- the contract of `step`
 module _ {M : Type 1} (𝓤 : URA M) (H : Heap 𝓤) (A : Atoms 𝓤) (mem : Memory → SProp 𝓤) (run : Routine → Fun 𝓤) where
   abbrev StepC : Contract 𝓤
   StepC = tripleOf 𝓤 H A step.signature (step.spec 𝓤 H A mem run)
 
-  abbrev LineC : Contract 𝓤
-  LineC = tripleOf 𝓤 H A line.signature (line.spec 𝓤 H A mem run)
+module _ {M : Type 1} (𝓤 : URA M) (H : Heap 𝓤) (A : Atoms 𝓤) (W : Given 𝓤 H A) (at-mem : Memory → SProp 𝓤) (run : Routine → Fun 𝓤)
+    (κ κ′ : Lft) (q q′ : Share) (b o : ℕ) (γ : GName) (h : Tables) (s : RefT (List ℕ)) where
+  -- the slice's machine value, and what it owns
+  abbrev v : Val
+  v = sliceVal (s .ptr) (length (s .now))
 
-module _ {M : Type 1} (𝓤 : URA M) (H : Heap 𝓤) (A : Atoms 𝓤) (W : Given 𝓤 H A) (at-mem : Memory → SProp 𝓤) (run : Routine → Fun 𝓤) where
-  -- the call of `line`: what its triple binds outside, what it asks, and what is known of its result
-  module _ (r : Step) where
-    abbrev to-line : LineC 𝓤 H A at-mem run .Ghost
-    to-line = ((tt, tt, tt, (r, tt), (vS r ∷ [], tt)), tt)
+  abbrev Own : Fml
+  Own = ShrSlice (named 1) κ′ u8 .own s (v ∷ [])
 
-    goes-line : ent 𝓤 (sem 𝓤 H A (S.the-row .own r (vS r ∷ []))) (LineC 𝓤 H A at-mem run .pre to-line)
-    goes-line = qed W (‵ (S.the-row .own r (vS r ∷ [])) ∷ []) ∵ nothing ! $ move ! (1 ∷ 0 ∷ []) $ join ! $ nothing ! $ join ! $ frame ! $ done !
+  abbrev found : Step
+  found = stepOf h (now s)
 
-    abbrev LineSaid : Answer → SProp 𝓤
-    LineSaid a = ensured 𝓤 H A line.ended (line.clauses 𝓤 H A at-mem run) tt (r, tt) tt a
+  -- what the triple binds outside, and its postcondition
+  abbrev a : RefT Tables × (RefT (List ℕ) × Unit {0})
+  a = (record { ptr = (b, o); name = γ; now = h }, (s, tt))
 
-    abbrev Numbered : Answer → Type 0
-    Numbered a = listed a ≡ lineOf r
+  abbrev vals : List Val × (List Val × Unit {0})
+  vals = (vptr b o ∷ [], (v ∷ [], tt))
 
-    line-said : (a : Answer) → ent 𝓤 (LineSaid a) (fact 𝓤 (Numbered a))
-    line-said a = exE 𝓤 _ (λ ws. snd∗ 𝓤 (sem 𝓤 H A (lasts line.ended tt (r, tt) ws)) (fact 𝓤 (Numbered a)))
+  abbrev bound : walkOf 𝓤 H A advance.ended stayed (advance.clauses 𝓤 H A at-mem run) .Ghost
+  bound = (((κ, (κ′, tt)), (q, (q′, tt)), tt, a, vals), tt)
 
-  module _ (κ κ′ : Lft) (q q′ : Share) (b o : ℕ) (γ : GName) (h : Tables) (s : RefT (List ℕ)) where
-    -- the slice's machine value, and what it owns
-    abbrev v : Val
-    v = sliceVal (s .ptr) (length (s .now))
+  abbrev Post : Val → SProp 𝓤
+  Post = walkOf 𝓤 H A advance.ended stayed (advance.clauses 𝓤 H A at-mem run) .post bound
 
-    abbrev Own : Fml
-    Own = ShrSlice (named 1) κ′ u8 .own s (v ∷ [])
+  -- the call of `step`
+  abbrev to-step : StepC 𝓤 H A at-mem run .Ghost
+  to-step = (((κ′, tt), (q′, tt), tt, (h, (s, tt)), (vT h ∷ [], (v ∷ [], tt))), tt)
 
-    abbrev found : Step
-    found = stepOf h (now s)
+  abbrev Asked : List (Item 𝓤)
+  Asked = ‵ (T.the-row .own h (vT h ∷ [])) ∷ (‵ (flft κ′ q′) ⊛ ‵ ftrue) ∷ ‵ (fsep Own ftrue) ∷ []
 
-    -- what the triple binds outside, and its postcondition
-    abbrev a : RefT Tables × (RefT (List ℕ) × Unit {0})
-    a = (record { ptr = (b, o); name = γ; now = h }, (s, tt))
+  goes-step : ent 𝓤 (⋆ 𝓤 H A Asked) (sep 𝓤 (StepC 𝓤 H A at-mem run .pre to-step) (sem 𝓤 H A Own))
+  goes-step =
+      qed W Asked ∵
+      move ! (2 ∷ []) $ fsplit ! $ use1 W (‵ Own ⊛ ‵ Own) (shr-slice-copy 𝓤 H A W (named 1) κ′ u8 .twice s (v ∷ [])) $ split ! $
+      -- [the slice's; the slice's; true; the tables'; the token]
+      move ! (0 ∷ 2 ∷ []) $ fjoin ! $ move ! (2 ∷ 0 ∷ []) $ fjoin ! $ move ! (2 ∷ 0 ∷ []) $ join ! $ nothing ! $ move ! (1 ∷ 0 ∷ []) $ join ! $ frame ! $
+      done !
 
-    abbrev vals : List Val × (List Val × Unit {0})
-    vals = (vptr b o ∷ [], (v ∷ [], tt))
+  abbrev StepSaid : Step → SProp 𝓤
+  StepSaid r = ensured 𝓤 H A step.ended (step.clauses 𝓤 H A at-mem run) (κ′, tt) (h, (s, tt)) tt r
 
-    abbrev bound : walkOf 𝓤 H A advance.ended stayed (advance.clauses 𝓤 H A at-mem run) .Ghost
-    bound = (((κ, (κ′, tt)), (q, (q′, tt)), tt, a, vals), tt)
+  said : (r : Step) → ent 𝓤 (StepSaid r) (fact 𝓤 (r ≡ found))
+  said r = exE 𝓤 _ (λ ws. snd∗ 𝓤 (sem 𝓤 H A (lasts step.ended (κ′, tt) (h, (s, tt)) ws)) (fact 𝓤 (r ≡ found)))
 
-    abbrev Post : Val → SProp 𝓤
-    Post = walkOf 𝓤 H A advance.ended stayed (advance.clauses 𝓤 H A at-mem run) .post bound
+  -- what is had at the exit, where the answer z has the machine value w
+  abbrev Had : Step → Answer → Val → List (Item 𝓤)
+  Had r z w =
+      ‵ (fobs γ (T.the-row .coded .code (r .tables))) ∷ ‵ (fbor κ (Body (mem T.the-row) b o γ)) ∷ ‵ (flft κ q) ∷ (‵ (flft κ′ q′) ⊛ ‵ ftrue) ∷ ‵ Own ∷
+      ‵ (N.the-row .own z (w ∷ [])) ∷ []
 
-    -- the call of `step`
-    abbrev to-step : StepC 𝓤 H A at-mem run .Ghost
-    to-step = (((κ′, tt), (q′, tt), tt, (h, (s, tt)), (vT h ∷ [], (v ∷ [], tt))), tt)
+  exits : (r : Step) (z : Answer) (w : Val) → r ≡ found → Numbered r z → ent 𝓤 (⋆ 𝓤 H A (Had r z w)) (Post w)
+  exits r z w e e′ =
+      qed W (Had r z w) ∵
+      suffices ! _ (ends-at 𝓤 H A advance.ended stayed (advance.clauses 𝓤 H A at-mem run) W bound w z (r .tables, (tt, tt)) (tt, (tt, tt))) $
+      says ! (e′ ∙ ap lineOf e, ap (λ (x : Step). x .tables) e) $
+      move ! (2 ∷ 3 ∷ []) $ join ! $ frame ! $ feqI ! (List Val) (vptr b o ∷ []) (vptr b o ∷ []) refl $ fjoin3 ! $
+      nothing ! $ move ! (2 ∷ 0 ∷ []) $ fjoin ! $ move ! (1 ∷ 0 ∷ []) $ fjoin ! $ done !
 
-    abbrev Asked : List (Item 𝓤)
-    Asked = ‵ (T.the-row .own h (vT h ∷ [])) ∷ (‵ (flft κ′ q′) ⊛ ‵ ftrue) ∷ ‵ (fsep Own ftrue) ∷ []
-
-    goes-step : ent 𝓤 (⋆ 𝓤 H A Asked) (sep 𝓤 (StepC 𝓤 H A at-mem run .pre to-step) (sem 𝓤 H A Own))
-    goes-step =
-        qed W Asked ∵
-        move ! (2 ∷ []) $ fsplit ! $ use1 W (‵ Own ⊛ ‵ Own) (shr-slice-copy 𝓤 H A W (named 1) κ′ u8 .twice s (v ∷ [])) $ split ! $
-        -- [the slice's; the slice's; true; the tables'; the token]
-        move ! (0 ∷ 2 ∷ []) $ fjoin ! $ move ! (2 ∷ 0 ∷ []) $ fjoin ! $ move ! (2 ∷ 0 ∷ []) $ join ! $ nothing ! $ move ! (1 ∷ 0 ∷ []) $ join ! $ frame ! $
-        done !
-
-    abbrev StepSaid : Step → SProp 𝓤
-    StepSaid r = ensured 𝓤 H A step.ended (step.clauses 𝓤 H A at-mem run) (κ′, tt) (h, (s, tt)) tt r
-
-    said : (r : Step) → ent 𝓤 (StepSaid r) (fact 𝓤 (r ≡ found))
-    said r = exE 𝓤 _ (λ ws. snd∗ 𝓤 (sem 𝓤 H A (lasts step.ended (κ′, tt) (h, (s, tt)) ws)) (fact 𝓤 (r ≡ found)))
-
-    -- what is had at the exit, where the answer z has the machine value w
-    abbrev Had : Step → Answer → Val → List (Item 𝓤)
-    Had r z w =
-        ‵ (fobs γ (T.the-row .coded .code (r .tables))) ∷ ‵ (fbor κ (Body (mem T.the-row) b o γ)) ∷ ‵ (flft κ q) ∷ (‵ (flft κ′ q′) ⊛ ‵ ftrue) ∷ ‵ Own ∷
-        ‵ (N.the-row .own z (w ∷ [])) ∷ []
-
-    exits : (r : Step) (z : Answer) (w : Val) → r ≡ found → Numbered r z → ent 𝓤 (⋆ 𝓤 H A (Had r z w)) (Post w)
-    exits r z w e e′ =
-        qed W (Had r z w) ∵
-        suffices ! _ (ends-at 𝓤 H A advance.ended stayed (advance.clauses 𝓤 H A at-mem run) W bound w z (r .tables, (tt, tt)) (tt, (tt, tt))) $
-        says ! (e′ ∙ ap lineOf e, ap (λ (x : Step). x .tables) e) $
-        move ! (2 ∷ 3 ∷ []) $ join ! $ frame ! $ feqI ! (List Val) (vptr b o ∷ []) (vptr b o ∷ []) refl $ fjoin3 ! $
-        nothing ! $ move ! (2 ∷ 0 ∷ []) $ fjoin ! $ move ! (1 ∷ 0 ∷ []) $ fjoin ! $ done !
-
-    module _ (C : Calls 𝓤 H) (Λ : Loops 𝓤 H) (fm : FmC 𝓤 H (W .laws) C)
-        (known-step : Triple 𝓤 (C #executive·step) (StepC 𝓤 H A at-mem run)) (known-line : Triple 𝓤 (C #executive·line) (LineC 𝓤 H A at-mem run)) where
-      walk : Is (ShrSlice (named 1) κ′ u8) s (v ∷ [])
-          → ent 𝓤 (onEntry 𝓤 H A advance.signature (κ, (κ′, tt)) (q, (q′, tt)) a vals) (WpFn 𝓤 H C Λ code.function (vptr b o ∷ v ∷ []) Post)
-      walk p =
-          qed W ((‵ (flft κ q) ⊛ ‵ (flft κ′ q′) ⊛ ‵ ftrue) ∷ ‵ (owns (MutRef (named 0) κ T.the-row ∷ ShrSlice (named 1) κ′ u8 ∷ []) a vals) ∷ []) ∵
-          enter ! C Λ code.function (vptr b o ∷ v ∷ []) _ $
-          alloc1 ! (λ l₀. alloc1 ! (λ l₁. alloc1 ! (λ l₂. alloc1 ! (λ l₃. alloc1 ! (λ l₄. alloc0 ! $ params1 ! $
-          pass1 ! (init ! 6 refl (tt, tt)) $ pass1 ! (init ! 4 refl (shr-slice-lawful 𝓤 H A W (named 1) κ′ u8 .typed s (v ∷ []) p .0)) $ pass0 ! $
-          -- the borrow is opened
-          move ! (11 ∷ []) $ fsplit ! $ fsplit3 ! $ drop ! $ move ! (13 ∷ []) $ split ! $ move ! (2 ∷ 3 ∷ 0 ∷ []) $
-          opens ! tt T.the-row {h = h} b o (λ vs.
-          spelt ! T.the-row (Is T.the-row) (shows 𝓤 H A T.the-row) (LL.vals T.the-type T′.the-laws) (LL.tells T.the-type T′.the-laws) fullShare h vs b o $
-          move ! (1 ∷ []) $ peeks ! T.the-row (Is T.the-row) (shows 𝓤 H A T.the-row) h (vT h ∷ []) (λ g. move ! (1 ∷ 0 ∷ []) $
-          -- [the tables' cell; what the tables own; the open borrow; obs; auth; the slice's token; the slice's; _4; …; _3; …; _2; …; _1; …; room for _0; …]
-          assigns ! (of-opd ! (load ! (from ! (hop ! (look ! 13 refl) (stop !))) (look-raw ! 0 refl))) (from ! (stop !))
-          (init ! 7 refl (LL.lawful T.the-type T′.the-laws 𝓤 H A W .typed h _ g .0)) $
-          -- `step` is called
-          move ! (1 ∷ 5 ∷ 6 ∷ []) $ use3 W (raw (StepC 𝓤 H A at-mem run .pre to-step) ⊛ ‵ Own) goes-step $ split ! $
-          calls-at ! fm (StepC 𝓤 H A at-mem run) known-step to-step
-          (and-then ! (load ! (from ! (stop !)) (look ! 6 refl)) (and-then ! (load ! (from ! (stop !)) (look ! 10 refl)) (no-more !))) (λ u.
-          use1 W (later (some (λ (r : Step). ((‵ (flft κ′ q′) ⊛ ‵ ftrue) ⊛ ‵ (S.the-row .own r (u ∷ []))) ⊛ raw (StepSaid r)))) (id⊢ 𝓤 _) $ await ! tt $
-          pick ! (λ r.
-          split ! $ move ! (1 ∷ []) $ use1 W (raw (fact 𝓤 (r ≡ found))) (said r) $ heard ! (r ≡ found) (λ e. split ! $ move ! (1 ∷ []) $
-          -- [what the step owns; the slice's token; the slice's; the tables' cell; the open borrow; obs; auth; _4; …; _3; …; _2; …; _1; …; room for _0; …]
-          peeks ! S.the-row (Is S.the-row) (shows 𝓤 H A S.the-row) r (u ∷ []) (λ is.
-          land ! (from ! (stop !)) (init ! 9 refl (LL.lawful S.the-type S′.the-laws 𝓤 H A W .typed r _ is .0)) $
-          rewrite ! 9 (λ (w : Val). ‵ (fat fullShare S′.mir l₃ 0 w)) (ap only (LL.tells S.the-type S′.the-laws r (u ∷ []) is)) refl $
-          -- the new tables are stored, and the borrow is closed at them
-          assigns ! (of-opd ! (load ! (from ! (fld ! refl (stop !))) (look-in ! 9 (sub ! 0 refl (whole !))))) (from ! (hop ! (look ! 13 refl) (stop !)))
-          (store-raw ! 3 refl (LL.lawful T.the-type T′.the-laws 𝓤 H A W .typed (r .tables) _ (isT r u is) .0)) $
-          drop ! $ owned ! T.the-row (Is T.the-row) (LL.makes T.the-type T′.the-plain 𝓤 H A) (r .tables) _ (isT r u is) $ move ! (3 ∷ 0 ∷ 4 ∷ 5 ∷ 6 ∷ []) $
-          closes ! tt T.the-row (r .tables) (vT (r .tables) ∷ []) b o $
-          -- `line` is called: [what the step owns; obs; the borrow; the token; the slice's token; the slice's; _4; …; _3; …; _2; …; _1; …; room for _0; …]
-          owned ! S.the-row (Is S.the-row) (LL.makes S.the-type S′.the-plain 𝓤 H A) r _ (isS r u is) $
-          use1 W (raw (LineC 𝓤 H A at-mem run .pre (to-line r))) (goes-line r) $
-          calls-at ! fm (LineC 𝓤 H A at-mem run) known-line (to-line r) (and-then ! (load ! (from ! (stop !)) (look ! 8 refl)) (no-more !)) (λ w.
-          use1 W (later (some (λ (z : Answer). (‵ ftrue ⊛ ‵ (N.the-row .own z (w ∷ []))) ⊛ raw (LineSaid r z))))
-          (id⊢ 𝓤 _) $ await ! tt $ pick ! (λ z.
-          split ! $ move ! (1 ∷ []) $ use1 W (raw (fact 𝓤 (Numbered r z))) (line-said r z) $ heard ! (Numbered r z) (λ e′. split ! $ drop ! $
-          -- [what the answer owns; obs; the borrow; the token; the slice's token; the slice's; _4; …; _3; …; _2; …; _1; …; room for _0; …]
-          peeks ! N.the-row (Is N.the-row) (shows 𝓤 H A N.the-row) z (w ∷ []) (λ isN.
-          land ! (from ! (stop !)) (init ! 14 refl (LL.lawful N.the-type N′.the-laws 𝓤 H A W .typed z _ isN .0)) $
-          returns ! (look ! 14 refl) $ forget ! 6 refl $ forget ! 8 refl $ forget ! 10 refl $ forget ! 12 refl $ forget ! 14 refl $
-          move ! (14 ∷ 15 ∷ []) $ free1 ! $ move ! (12 ∷ 13 ∷ []) $ free1 ! $ move ! (10 ∷ 11 ∷ []) $ free1 ! $
-          move ! (8 ∷ 9 ∷ []) $ free1 ! $ move ! (6 ∷ 7 ∷ []) $ free1 ! $ free0 ! $
-          move ! (1 ∷ 2 ∷ 3 ∷ 4 ∷ 5 ∷ []) $ by ! (exits r z w e e′))))))))))))))))
+  module _ (C : Calls 𝓤 H) (Λ : Loops 𝓤 H) (fm : FmC 𝓤 H (W .laws) C)
+      (known-step : Triple 𝓤 (C #executive·step) (StepC 𝓤 H A at-mem run)) (known-line : Triple 𝓤 (C #executive·line) (LineC 𝓤 H A at-mem run)) where
+    walk : Is (ShrSlice (named 1) κ′ u8) s (v ∷ [])
+        → ent 𝓤 (onEntry 𝓤 H A advance.signature (κ, (κ′, tt)) (q, (q′, tt)) a vals) (WpFn 𝓤 H C Λ code.function (vptr b o ∷ v ∷ []) Post)
+    walk p =
+        qed W ((‵ (flft κ q) ⊛ ‵ (flft κ′ q′) ⊛ ‵ ftrue) ∷ ‵ (owns (MutRef (named 0) κ T.the-row ∷ ShrSlice (named 1) κ′ u8 ∷ []) a vals) ∷ []) ∵
+        enter ! C Λ code.function (vptr b o ∷ v ∷ []) _ $
+        alloc1 ! (λ l₀. alloc1 ! (λ l₁. alloc1 ! (λ l₂. alloc1 ! (λ l₃. alloc1 ! (λ l₄. alloc0 ! $ params1 ! $
+        pass1 ! (init ! 6 refl (tt, tt)) $ pass1 ! (init ! 4 refl (shr-slice-lawful 𝓤 H A W (named 1) κ′ u8 .typed s (v ∷ []) p .0)) $ pass0 ! $
+        -- the borrow is opened
+        move ! (11 ∷ []) $ fsplit ! $ fsplit3 ! $ drop ! $ move ! (13 ∷ []) $ split ! $ move ! (2 ∷ 3 ∷ 0 ∷ []) $
+        opens ! tt T.the-row {h = h} b o (λ vs.
+        spelt ! T.the-row (Is T.the-row) (shows 𝓤 H A T.the-row) (LL.vals T.the-type T′.the-laws) (LL.tells T.the-type T′.the-laws) fullShare h vs b o $
+        move ! (1 ∷ []) $ peeks ! T.the-row (Is T.the-row) (shows 𝓤 H A T.the-row) h (vT h ∷ []) (λ g. move ! (1 ∷ 0 ∷ []) $
+        -- [the tables' cell; what the tables own; the open borrow; obs; auth; the slice's token; the slice's; _4; …; _3; …; _2; …; _1; …; room for _0; …]
+        assigns ! (of-opd ! (load ! (from ! (hop ! (look ! 13 refl) (stop !))) (look-raw ! 0 refl))) (from ! (stop !))
+        (init ! 7 refl (LL.lawful T.the-type T′.the-laws 𝓤 H A W .typed h _ g .0)) $
+        -- `step` is called
+        move ! (1 ∷ 5 ∷ 6 ∷ []) $ use3 W (raw (StepC 𝓤 H A at-mem run .pre to-step) ⊛ ‵ Own) goes-step $ split ! $
+        calls-at ! fm (StepC 𝓤 H A at-mem run) known-step to-step
+        (and-then ! (load ! (from ! (stop !)) (look ! 6 refl)) (and-then ! (load ! (from ! (stop !)) (look ! 10 refl)) (no-more !))) (λ u.
+        use1 W (later (some (λ (r : Step). ((‵ (flft κ′ q′) ⊛ ‵ ftrue) ⊛ ‵ (S.the-row .own r (u ∷ []))) ⊛ raw (StepSaid r)))) (id⊢ 𝓤 _) $ await ! tt $
+        pick ! (λ r.
+        split ! $ move ! (1 ∷ []) $ use1 W (raw (fact 𝓤 (r ≡ found))) (said r) $ heard ! (r ≡ found) (λ e. split ! $ move ! (1 ∷ []) $
+        -- [what the step owns; the slice's token; the slice's; the tables' cell; the open borrow; obs; auth; _4; …; _3; …; _2; …; _1; …; room for _0; …]
+        peeks ! S.the-row (Is S.the-row) (shows 𝓤 H A S.the-row) r (u ∷ []) (λ is.
+        land ! (from ! (stop !)) (init ! 9 refl (LL.lawful S.the-type S′.the-laws 𝓤 H A W .typed r _ is .0)) $
+        rewrite ! 9 (λ (w : Val). ‵ (fat fullShare S′.mir l₃ 0 w)) (ap only (LL.tells S.the-type S′.the-laws r (u ∷ []) is)) refl $
+        -- the new tables are stored, and the borrow is closed at them
+        assigns ! (of-opd ! (load ! (from ! (fld ! refl (stop !))) (look-in ! 9 (sub ! 0 refl (whole !))))) (from ! (hop ! (look ! 13 refl) (stop !)))
+        (store-raw ! 3 refl (LL.lawful T.the-type T′.the-laws 𝓤 H A W .typed (r .tables) _ (isT r u is) .0)) $
+        drop ! $ owned ! T.the-row (Is T.the-row) (LL.makes T.the-type T′.the-plain 𝓤 H A) (r .tables) _ (isT r u is) $ move ! (3 ∷ 0 ∷ 4 ∷ 5 ∷ 6 ∷ []) $
+        closes ! tt T.the-row (r .tables) (vT (r .tables) ∷ []) b o $
+        -- `line` is called: [what the step owns; obs; the borrow; the token; the slice's token; the slice's; _4; …; _3; …; _2; …; _1; …; room for _0; …]
+        owned ! S.the-row (Is S.the-row) (LL.makes S.the-type S′.the-plain 𝓤 H A) r _ (isS r u is) $
+        use1 W (raw (LineC 𝓤 H A at-mem run .pre (to-line 𝓤 H A at-mem run r))) (goes-line 𝓤 H A at-mem run r W) $
+        calls-at ! fm (LineC 𝓤 H A at-mem run) known-line (to-line 𝓤 H A at-mem run r) (and-then ! (load ! (from ! (stop !)) (look ! 8 refl)) (no-more !)) (λ w.
+        use1 W (later (some (λ (z : Answer). (‵ ftrue ⊛ ‵ (N.the-row .own z (w ∷ []))) ⊛ raw (LineSaid 𝓤 H A at-mem run r z))))
+        (id⊢ 𝓤 _) $ await ! tt $ pick ! (λ z.
+        split ! $ move ! (1 ∷ []) $ use1 W (raw (fact 𝓤 (Numbered r z))) (line-said 𝓤 H A at-mem run r z) $ heard ! (Numbered r z) (λ e′. split ! $ drop ! $
+        -- [what the answer owns; obs; the borrow; the token; the slice's token; the slice's; _4; …; _3; …; _2; …; _1; …; room for _0; …]
+        peeks ! N.the-row (Is N.the-row) (shows 𝓤 H A N.the-row) z (w ∷ []) (λ isN.
+        land ! (from ! (stop !)) (init ! 14 refl (LL.lawful N.the-type N′.the-laws 𝓤 H A W .typed z _ isN .0)) $
+        returns ! (look ! 14 refl) $ forget ! 6 refl $ forget ! 8 refl $ forget ! 10 refl $ forget ! 12 refl $ forget ! 14 refl $
+        move ! (14 ∷ 15 ∷ []) $ free1 ! $ move ! (12 ∷ 13 ∷ []) $ free1 ! $ move ! (10 ∷ 11 ∷ []) $ free1 ! $
+        move ! (8 ∷ 9 ∷ []) $ free1 ! $ move ! (6 ∷ 7 ∷ []) $ free1 ! $ free0 ! $
+        move ! (1 ∷ 2 ∷ 3 ∷ 4 ∷ 5 ∷ []) $ by ! (exits r z w e e′))))))))))))))))
 
 module _ {M : Type 1} (𝓤 : URA M) (H : Heap 𝓤) (A : Atoms 𝓤) (W : Given 𝓤 H A) (mem : Memory → SProp 𝓤) (run : Routine → Fun 𝓤) (𝓣 : Tabled 𝓤 H)
     (known-step : Triple 𝓤 (𝓣 .C #executive·step) (StepC 𝓤 H A mem run)) (known-line : Triple 𝓤 (𝓣 .C #executive·line) (LineC 𝓤 H A mem run)) where

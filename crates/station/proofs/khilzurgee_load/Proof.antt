@@ -2,7 +2,7 @@
 -- `load` is called with the slice, and what it returned is laid in a local; its tables are stored in the cell, and the borrow is closed at them; `line`
 -- makes the answer of it, which is the line of a load.
 -- All that the proof knows of `load` and `line` is that each meets its contract. No field of the tables is named.
-use mathlib.Core.Path.{_≡_, refl, ap, subst, _∙_}
+use mathlib.Core.Path.{_≡_, refl, ap, _∙_}
 use Prim.Native.Nat.{ℕ}
 use mathlib.Core.List.{List, [], _∷_}
 use lib.ListN.{length}
@@ -58,7 +58,7 @@ use Rattle.executive.proofs.load as load
 use Rattle.executive.proofs.load.Symbol as load-def
 use Rattle.executive.proofs.load.Symbol.{name as #executive·load}
 use Rattle.executive.proofs.load.Met as load-thm
-use Rattle.executive.proofs.line as line
+use Rattle.executive.proofs.Lined.{vT, isS, isT, Numbered, LineC, to-line, goes-line, LineSaid, line-said}
 use Rattle.executive.proofs.line.Symbol as line-def
 use Rattle.executive.proofs.line.Symbol.{name as #executive·line}
 use Rattle.executive.proofs.line.Met as line-thm
@@ -71,141 +71,106 @@ use Rattle.station.proofs.khilzurgee_load.Code as code
 abbrev stayed : Stays (exported.ended .signature .params) (exported.ended .kept)
 stayed = (stay-ref (0 ∷ []) tt (plain (λ _. T.the-row)), (stay-dropped (shrSliceOf (1 ∷ []) tt (plain (λ _. u8))) yes, tt))
 
--- the machine values of the tables and of a step
-abbrev vT : Tables → Val
-vT = LL.val T.the-type T′.the-laws
-
-abbrev vS : Step → Val
-vS = LL.val S.the-type S′.the-laws
-
--- what whoever holds a Step knows of it, at that machine value, and of its tables
-module _ (r : Step) (u : Val) (is : Is S.the-row r (u ∷ [])) where
-  isS : Is S.the-row r (vS r ∷ [])
-  isS = subst (Is S.the-row r) (LL.tells S.the-type S′.the-laws r (u ∷ []) is) is
-
-  isT : Is T.the-row (r .tables) (vT (r .tables) ∷ [])
-  isT = LL.owed S.the-type S′.the-laws r (u ∷ []) is .0
-
--- the contracts that the proof cites
+-- the contract of `load`
 module _ {M : Type 1} (𝓤 : URA M) (H : Heap 𝓤) (A : Atoms 𝓤) (mem : Memory → SProp 𝓤) (run : Routine → Fun 𝓤) where
   abbrev LoadC : Contract 𝓤
   LoadC = tripleOf 𝓤 H A load.signature (load.spec 𝓤 H A mem run)
 
-  abbrev LineC : Contract 𝓤
-  LineC = tripleOf 𝓤 H A line.signature (line.spec 𝓤 H A mem run)
+module _ {M : Type 1} (𝓤 : URA M) (H : Heap 𝓤) (A : Atoms 𝓤) (W : Given 𝓤 H A) (at-mem : Memory → SProp 𝓤) (run : Routine → Fun 𝓤)
+    (κ κ′ : Lft) (q q′ : Share) (b o : ℕ) (γ : GName) (h : Tables) (s : RefT (List ℕ)) where
+  -- the slice's machine value, and what it owns
+  abbrev v : Val
+  v = sliceVal (s .ptr) (length (s .now))
 
-module _ {M : Type 1} (𝓤 : URA M) (H : Heap 𝓤) (A : Atoms 𝓤) (W : Given 𝓤 H A) (at-mem : Memory → SProp 𝓤) (run : Routine → Fun 𝓤) where
-  -- the call of `line`: what its triple binds outside, what it asks, and what is known of its result
-  module _ (r : Step) where
-    abbrev to-line : LineC 𝓤 H A at-mem run .Ghost
-    to-line = ((tt, tt, tt, (r, tt), (vS r ∷ [], tt)), tt)
+  abbrev Own : Fml
+  Own = ShrSlice (named 1) κ′ u8 .own s (v ∷ [])
 
-    goes-line : ent 𝓤 (sem 𝓤 H A (S.the-row .own r (vS r ∷ []))) (LineC 𝓤 H A at-mem run .pre to-line)
-    goes-line = qed W (‵ (S.the-row .own r (vS r ∷ [])) ∷ []) ∵ nothing ! $ move ! (1 ∷ 0 ∷ []) $ join ! $ nothing ! $ join ! $ frame ! $ done !
+  -- what the triple binds outside, and its postcondition
+  abbrev a : RefT Tables × (RefT (List ℕ) × Unit {0})
+  a = (record { ptr = (b, o); name = γ; now = h }, (s, tt))
 
-    abbrev LineSaid : Answer → SProp 𝓤
-    LineSaid z = ensured 𝓤 H A line.ended (line.clauses 𝓤 H A at-mem run) tt (r, tt) tt z
+  abbrev vals : List Val × (List Val × Unit {0})
+  vals = (vptr b o ∷ [], (v ∷ [], tt))
 
-    abbrev Numbered : Answer → Type 0
-    Numbered z = z .refusal ∷ z .result ∷ z .running ∷ [] ≡ lineOf r
+  abbrev bound : walkOf 𝓤 H A exported.ended stayed (exported.clauses 𝓤 H A at-mem run) .Ghost
+  bound = (((κ, (κ′, tt)), (q, (q′, tt)), tt, a, vals), tt)
 
-    line-said : (z : Answer) → ent 𝓤 (LineSaid z) (fact 𝓤 (Numbered z))
-    line-said z = exE 𝓤 _ (λ ws. snd∗ 𝓤 (sem 𝓤 H A (lasts line.ended tt (r, tt) ws)) (fact 𝓤 (Numbered z)))
+  abbrev Post : Val → SProp 𝓤
+  Post = walkOf 𝓤 H A exported.ended stayed (exported.clauses 𝓤 H A at-mem run) .post bound
 
-  module _ (κ κ′ : Lft) (q q′ : Share) (b o : ℕ) (γ : GName) (h : Tables) (s : RefT (List ℕ)) where
-    -- the slice's machine value, and what it owns
-    abbrev v : Val
-    v = sliceVal (s .ptr) (length (s .now))
+  -- the call of `load`
+  abbrev to-load : LoadC 𝓤 H A at-mem run .Ghost
+  to-load = (((κ′, tt), (q′, tt), tt, (s, tt), (v ∷ [], tt)), tt)
 
-    abbrev Own : Fml
-    Own = ShrSlice (named 1) κ′ u8 .own s (v ∷ [])
+  abbrev Asked : List (Item 𝓤)
+  Asked = (‵ (flft κ′ q′) ⊛ ‵ ftrue) ∷ ‵ (fsep Own ftrue) ∷ []
 
-    -- what the triple binds outside, and its postcondition
-    abbrev a : RefT Tables × (RefT (List ℕ) × Unit {0})
-    a = (record { ptr = (b, o); name = γ; now = h }, (s, tt))
+  goes-load : ent 𝓤 (⋆ 𝓤 H A Asked) (LoadC 𝓤 H A at-mem run .pre to-load)
+  goes-load = qed W Asked ∵ join ! $ nothing ! $ move ! (1 ∷ 0 ∷ []) $ frame ! $ done !
 
-    abbrev vals : List Val × (List Val × Unit {0})
-    vals = (vptr b o ∷ [], (v ∷ [], tt))
+  abbrev LoadSaid : Step → SProp 𝓤
+  LoadSaid r = ensured 𝓤 H A load.ended (load.clauses 𝓤 H A at-mem run) (κ′, tt) (s, tt) tt r
 
-    abbrev bound : walkOf 𝓤 H A exported.ended stayed (exported.clauses 𝓤 H A at-mem run) .Ghost
-    bound = (((κ, (κ′, tt)), (q, (q′, tt)), tt, a, vals), tt)
+  load-said : (r : Step) → ent 𝓤 (LoadSaid r) (fact 𝓤 (r ≡ begun (now s)))
+  load-said r = exE 𝓤 _ (λ ws. snd∗ 𝓤 (sem 𝓤 H A (lasts load.ended (κ′, tt) (s, tt) ws)) (fact 𝓤 (r ≡ begun (now s))))
 
-    abbrev Post : Val → SProp 𝓤
-    Post = walkOf 𝓤 H A exported.ended stayed (exported.clauses 𝓤 H A at-mem run) .post bound
+  -- what is had at the exit, where the answer z has the machine value w
+  abbrev Had : Step → Answer → Val → List (Item 𝓤)
+  Had r z w =
+      ‵ (fobs γ (T.the-row .coded .code (r .tables))) ∷ ‵ (fbor κ (Body (mem T.the-row) b o γ)) ∷ ‵ (flft κ q) ∷ (‵ (flft κ′ q′) ⊛ ‵ ftrue) ∷
+      ‵ (N.the-row .own z (w ∷ [])) ∷ []
 
-    -- the call of `load`
-    abbrev to-load : LoadC 𝓤 H A at-mem run .Ghost
-    to-load = (((κ′, tt), (q′, tt), tt, (s, tt), (v ∷ [], tt)), tt)
+  exits : (r : Step) (z : Answer) (w : Val) → r ≡ begun (now s) → Numbered r z → ent 𝓤 (⋆ 𝓤 H A (Had r z w)) (Post w)
+  exits r z w e e′ =
+      qed W (Had r z w) ∵
+      suffices ! _ (ends-at 𝓤 H A exported.ended stayed (exported.clauses 𝓤 H A at-mem run) W bound w z (r .tables, (tt, tt)) (tt, (tt, tt))) $
+      says ! (e′ ∙ ap lineOf e ∙ begun-line (now s), ap (λ (x : Step). x .tables) e) $
+      move ! (2 ∷ 3 ∷ []) $ join ! $ frame ! $ feqI ! (List Val) (vptr b o ∷ []) (vptr b o ∷ []) refl $ fjoin3 ! $
+      nothing ! $ nothing ! $ fjoin ! $ move ! (1 ∷ 0 ∷ []) $ fjoin ! $ done !
 
-    abbrev Asked : List (Item 𝓤)
-    Asked = (‵ (flft κ′ q′) ⊛ ‵ ftrue) ∷ ‵ (fsep Own ftrue) ∷ []
-
-    goes-load : ent 𝓤 (⋆ 𝓤 H A Asked) (LoadC 𝓤 H A at-mem run .pre to-load)
-    goes-load = qed W Asked ∵ join ! $ nothing ! $ move ! (1 ∷ 0 ∷ []) $ frame ! $ done !
-
-    abbrev LoadSaid : Step → SProp 𝓤
-    LoadSaid r = ensured 𝓤 H A load.ended (load.clauses 𝓤 H A at-mem run) (κ′, tt) (s, tt) tt r
-
-    load-said : (r : Step) → ent 𝓤 (LoadSaid r) (fact 𝓤 (r ≡ begun (now s)))
-    load-said r = exE 𝓤 _ (λ ws. snd∗ 𝓤 (sem 𝓤 H A (lasts load.ended (κ′, tt) (s, tt) ws)) (fact 𝓤 (r ≡ begun (now s))))
-
-    -- what is had at the exit, where the answer z has the machine value w
-    abbrev Had : Step → Answer → Val → List (Item 𝓤)
-    Had r z w =
-        ‵ (fobs γ (T.the-row .coded .code (r .tables))) ∷ ‵ (fbor κ (Body (mem T.the-row) b o γ)) ∷ ‵ (flft κ q) ∷ (‵ (flft κ′ q′) ⊛ ‵ ftrue) ∷
-        ‵ (N.the-row .own z (w ∷ [])) ∷ []
-
-    exits : (r : Step) (z : Answer) (w : Val) → r ≡ begun (now s) → Numbered r z → ent 𝓤 (⋆ 𝓤 H A (Had r z w)) (Post w)
-    exits r z w e e′ =
-        qed W (Had r z w) ∵
-        suffices ! _ (ends-at 𝓤 H A exported.ended stayed (exported.clauses 𝓤 H A at-mem run) W bound w z (r .tables, (tt, tt)) (tt, (tt, tt))) $
-        says ! (e′ ∙ ap lineOf e ∙ begun-line (now s), ap (λ (x : Step). x .tables) e) $
-        move ! (2 ∷ 3 ∷ []) $ join ! $ frame ! $ feqI ! (List Val) (vptr b o ∷ []) (vptr b o ∷ []) refl $ fjoin3 ! $
-        nothing ! $ nothing ! $ fjoin ! $ move ! (1 ∷ 0 ∷ []) $ fjoin ! $ done !
-
-    module _ (C : Calls 𝓤 H) (Λ : Loops 𝓤 H) (fm : FmC 𝓤 H (W .laws) C)
-        (known-load : Triple 𝓤 (C #executive·load) (LoadC 𝓤 H A at-mem run)) (known-line : Triple 𝓤 (C #executive·line) (LineC 𝓤 H A at-mem run)) where
-      walk : Is (ShrSlice (named 1) κ′ u8) s (v ∷ [])
-          → ent 𝓤 (onEntry 𝓤 H A exported.signature (κ, (κ′, tt)) (q, (q′, tt)) a vals) (WpFn 𝓤 H C Λ code.function (vptr b o ∷ v ∷ []) Post)
-      walk p =
-          qed W ((‵ (flft κ q) ⊛ ‵ (flft κ′ q′) ⊛ ‵ ftrue) ∷ ‵ (owns (MutRef (named 0) κ T.the-row ∷ ShrSlice (named 1) κ′ u8 ∷ []) a vals) ∷ []) ∵
-          enter ! C Λ code.function (vptr b o ∷ v ∷ []) _ $
-          alloc1 ! (λ l₀. alloc1 ! (λ l₁. alloc1 ! (λ l₂. alloc1 ! (λ l₃. alloc0 ! $ params1 ! $
-          pass1 ! (init ! 4 refl (tt, tt)) $ pass1 ! (init ! 2 refl (shr-slice-lawful 𝓤 H A W (named 1) κ′ u8 .typed s (v ∷ []) p .0)) $ pass0 ! $
-          -- the borrow is opened
-          move ! (9 ∷ []) $ fsplit ! $ fsplit3 ! $ drop ! $ move ! (11 ∷ []) $ split ! $ move ! (2 ∷ 3 ∷ 0 ∷ []) $
-          opens ! tt T.the-row {h = h} b o (λ vs.
-          spelt ! T.the-row (Is T.the-row) (shows 𝓤 H A T.the-row) (LL.vals T.the-type T′.the-laws) (LL.tells T.the-type T′.the-laws) fullShare h vs b o $
-          move ! (1 ∷ []) $ drop ! $
-          -- [the tables' cell; the open borrow; obs; auth; the slice's token; the slice's; room for _3; …; _2; …; _1; …; room for _0; …]
-          -- `load` is called
-          move ! (4 ∷ 5 ∷ []) $ use2 W (raw (LoadC 𝓤 H A at-mem run .pre to-load)) goes-load $
-          calls-at ! fm (LoadC 𝓤 H A at-mem run) known-load to-load (and-then ! (loads ! (from ! (stop !)) (look ! 7 refl)) (no-more !)) (λ u.
-          use1 W (later (some (λ (r : Step). ((‵ (flft κ′ q′) ⊛ ‵ ftrue) ⊛ ‵ (S.the-row .own r (u ∷ []))) ⊛ raw (LoadSaid r)))) (id⊢ 𝓤 _) $ await ! tt $
-          pick ! (λ r.
-          split ! $ move ! (1 ∷ []) $ use1 W (raw (fact 𝓤 (r ≡ begun (now s)))) (load-said r) $ heard ! (r ≡ begun (now s)) (λ e. split ! $ move ! (1 ∷ []) $
-          -- [what the step owns; the slice's token; the tables' cell; the open borrow; obs; auth; room for _3; …; _2; …; _1; …; room for _0; …]
-          peeks ! S.the-row (Is S.the-row) (shows 𝓤 H A S.the-row) r (u ∷ []) (λ is.
-          land ! (from ! (stop !)) (init ! 6 refl (LL.lawful S.the-type S′.the-laws 𝓤 H A W .typed r _ is .0)) $
-          rewrite ! 6 (λ (w : Val). ‵ (fat fullShare S′.mir l₃ 0 w)) (ap only (LL.tells S.the-type S′.the-laws r (u ∷ []) is)) refl $
-          -- the loaded tables are stored, and the borrow is closed at them
-          assigns ! (of-opd ! (loads ! (from ! (fld ! refl (stop !))) (look-in ! 6 (sub ! 0 refl (whole !))))) (from ! (hop ! (look ! 10 refl) (stop !)))
-          (store-raw ! 2 refl (LL.lawful T.the-type T′.the-laws 𝓤 H A W .typed (r .tables) _ (isT r u is) .0)) $
-          drop ! $ owned ! T.the-row (Is T.the-row) (LL.makes T.the-type T′.the-plain 𝓤 H A) (r .tables) _ (isT r u is) $ move ! (2 ∷ 0 ∷ 3 ∷ 4 ∷ 5 ∷ []) $
-          closes ! tt T.the-row (r .tables) (vT (r .tables) ∷ []) b o $
-          -- `line` is called: [what the step owns; obs; the borrow; the token; the slice's token; _3; …; _2; …; _1; …; room for _0; …]
-          owned ! S.the-row (Is S.the-row) (LL.makes S.the-type S′.the-plain 𝓤 H A) r _ (isS r u is) $
-          use1 W (raw (LineC 𝓤 H A at-mem run .pre (to-line r))) (goes-line r) $
-          calls-at ! fm (LineC 𝓤 H A at-mem run) known-line (to-line r) (and-then ! (loads ! (from ! (stop !)) (look ! 5 refl)) (no-more !)) (λ w.
-          use1 W (later (some (λ (z : Answer). (‵ ftrue ⊛ ‵ (N.the-row .own z (w ∷ []))) ⊛ raw (LineSaid r z))))
-          (id⊢ 𝓤 _) $ await ! tt $ pick ! (λ z.
-          split ! $ move ! (1 ∷ []) $ use1 W (raw (fact 𝓤 (Numbered r z))) (line-said r z) $ heard ! (Numbered r z) (λ e′. split ! $ drop ! $
-          -- [what the answer owns; obs; the borrow; the token; the slice's token; _3; …; _2; …; _1; …; room for _0; …]
-          peeks ! N.the-row (Is N.the-row) (shows 𝓤 H A N.the-row) z (w ∷ []) (λ isN.
-          land ! (from ! (stop !)) (init ! 11 refl (LL.lawful N.the-type N′.the-laws 𝓤 H A W .typed z _ isN .0)) $
-          returns ! (look ! 11 refl) $ forget ! 5 refl $ forget ! 7 refl $ forget ! 9 refl $ forget ! 11 refl $
-          move ! (11 ∷ 12 ∷ []) $ free1 ! $ move ! (9 ∷ 10 ∷ []) $ free1 ! $ move ! (7 ∷ 8 ∷ []) $ free1 ! $ move ! (5 ∷ 6 ∷ []) $ free1 ! $ free0 ! $
-          move ! (1 ∷ 2 ∷ 3 ∷ 4 ∷ []) $ by ! (exits r z w e e′))))))))))))))
+  module _ (C : Calls 𝓤 H) (Λ : Loops 𝓤 H) (fm : FmC 𝓤 H (W .laws) C)
+      (known-load : Triple 𝓤 (C #executive·load) (LoadC 𝓤 H A at-mem run)) (known-line : Triple 𝓤 (C #executive·line) (LineC 𝓤 H A at-mem run)) where
+    walk : Is (ShrSlice (named 1) κ′ u8) s (v ∷ [])
+        → ent 𝓤 (onEntry 𝓤 H A exported.signature (κ, (κ′, tt)) (q, (q′, tt)) a vals) (WpFn 𝓤 H C Λ code.function (vptr b o ∷ v ∷ []) Post)
+    walk p =
+        qed W ((‵ (flft κ q) ⊛ ‵ (flft κ′ q′) ⊛ ‵ ftrue) ∷ ‵ (owns (MutRef (named 0) κ T.the-row ∷ ShrSlice (named 1) κ′ u8 ∷ []) a vals) ∷ []) ∵
+        enter ! C Λ code.function (vptr b o ∷ v ∷ []) _ $
+        alloc1 ! (λ l₀. alloc1 ! (λ l₁. alloc1 ! (λ l₂. alloc1 ! (λ l₃. alloc0 ! $ params1 ! $
+        pass1 ! (init ! 4 refl (tt, tt)) $ pass1 ! (init ! 2 refl (shr-slice-lawful 𝓤 H A W (named 1) κ′ u8 .typed s (v ∷ []) p .0)) $ pass0 ! $
+        -- the borrow is opened
+        move ! (9 ∷ []) $ fsplit ! $ fsplit3 ! $ drop ! $ move ! (11 ∷ []) $ split ! $ move ! (2 ∷ 3 ∷ 0 ∷ []) $
+        opens ! tt T.the-row {h = h} b o (λ vs.
+        spelt ! T.the-row (Is T.the-row) (shows 𝓤 H A T.the-row) (LL.vals T.the-type T′.the-laws) (LL.tells T.the-type T′.the-laws) fullShare h vs b o $
+        move ! (1 ∷ []) $ drop ! $
+        -- [the tables' cell; the open borrow; obs; auth; the slice's token; the slice's; room for _3; …; _2; …; _1; …; room for _0; …]
+        -- `load` is called
+        move ! (4 ∷ 5 ∷ []) $ use2 W (raw (LoadC 𝓤 H A at-mem run .pre to-load)) goes-load $
+        calls-at ! fm (LoadC 𝓤 H A at-mem run) known-load to-load (and-then ! (loads ! (from ! (stop !)) (look ! 7 refl)) (no-more !)) (λ u.
+        use1 W (later (some (λ (r : Step). ((‵ (flft κ′ q′) ⊛ ‵ ftrue) ⊛ ‵ (S.the-row .own r (u ∷ []))) ⊛ raw (LoadSaid r)))) (id⊢ 𝓤 _) $ await ! tt $
+        pick ! (λ r.
+        split ! $ move ! (1 ∷ []) $ use1 W (raw (fact 𝓤 (r ≡ begun (now s)))) (load-said r) $ heard ! (r ≡ begun (now s)) (λ e. split ! $ move ! (1 ∷ []) $
+        -- [what the step owns; the slice's token; the tables' cell; the open borrow; obs; auth; room for _3; …; _2; …; _1; …; room for _0; …]
+        peeks ! S.the-row (Is S.the-row) (shows 𝓤 H A S.the-row) r (u ∷ []) (λ is.
+        land ! (from ! (stop !)) (init ! 6 refl (LL.lawful S.the-type S′.the-laws 𝓤 H A W .typed r _ is .0)) $
+        rewrite ! 6 (λ (w : Val). ‵ (fat fullShare S′.mir l₃ 0 w)) (ap only (LL.tells S.the-type S′.the-laws r (u ∷ []) is)) refl $
+        -- the loaded tables are stored, and the borrow is closed at them
+        assigns ! (of-opd ! (loads ! (from ! (fld ! refl (stop !))) (look-in ! 6 (sub ! 0 refl (whole !))))) (from ! (hop ! (look ! 10 refl) (stop !)))
+        (store-raw ! 2 refl (LL.lawful T.the-type T′.the-laws 𝓤 H A W .typed (r .tables) _ (isT r u is) .0)) $
+        drop ! $ owned ! T.the-row (Is T.the-row) (LL.makes T.the-type T′.the-plain 𝓤 H A) (r .tables) _ (isT r u is) $ move ! (2 ∷ 0 ∷ 3 ∷ 4 ∷ 5 ∷ []) $
+        closes ! tt T.the-row (r .tables) (vT (r .tables) ∷ []) b o $
+        -- `line` is called: [what the step owns; obs; the borrow; the token; the slice's token; _3; …; _2; …; _1; …; room for _0; …]
+        owned ! S.the-row (Is S.the-row) (LL.makes S.the-type S′.the-plain 𝓤 H A) r _ (isS r u is) $
+        use1 W (raw (LineC 𝓤 H A at-mem run .pre (to-line 𝓤 H A at-mem run r))) (goes-line 𝓤 H A at-mem run r W) $
+        calls-at ! fm (LineC 𝓤 H A at-mem run) known-line (to-line 𝓤 H A at-mem run r) (and-then ! (loads ! (from ! (stop !)) (look ! 5 refl)) (no-more !)) (λ w.
+        use1 W (later (some (λ (z : Answer). (‵ ftrue ⊛ ‵ (N.the-row .own z (w ∷ []))) ⊛ raw (LineSaid 𝓤 H A at-mem run r z))))
+        (id⊢ 𝓤 _) $ await ! tt $ pick ! (λ z.
+        split ! $ move ! (1 ∷ []) $ use1 W (raw (fact 𝓤 (Numbered r z))) (line-said 𝓤 H A at-mem run r z) $ heard ! (Numbered r z) (λ e′. split ! $ drop ! $
+        -- [what the answer owns; obs; the borrow; the token; the slice's token; _3; …; _2; …; _1; …; room for _0; …]
+        peeks ! N.the-row (Is N.the-row) (shows 𝓤 H A N.the-row) z (w ∷ []) (λ isN.
+        land ! (from ! (stop !)) (init ! 11 refl (LL.lawful N.the-type N′.the-laws 𝓤 H A W .typed z _ isN .0)) $
+        returns ! (look ! 11 refl) $ forget ! 5 refl $ forget ! 7 refl $ forget ! 9 refl $ forget ! 11 refl $
+        move ! (11 ∷ 12 ∷ []) $ free1 ! $ move ! (9 ∷ 10 ∷ []) $ free1 ! $ move ! (7 ∷ 8 ∷ []) $ free1 ! $ move ! (5 ∷ 6 ∷ []) $ free1 ! $ free0 ! $
+        move ! (1 ∷ 2 ∷ 3 ∷ 4 ∷ []) $ by ! (exits r z w e e′))))))))))))))
 
 module _ {M : Type 1} (𝓤 : URA M) (H : Heap 𝓤) (A : Atoms 𝓤) (W : Given 𝓤 H A) (mem : Memory → SProp 𝓤) (run : Routine → Fun 𝓤) (𝓣 : Tabled 𝓤 H)
     (known-load : Triple 𝓤 (𝓣 .C #executive·load) (LoadC 𝓤 H A mem run)) (known-line : Triple 𝓤 (𝓣 .C #executive·line) (LineC 𝓤 H A mem run)) where

@@ -4,12 +4,15 @@ use Rattle.tables.specs.State.{allZero}
 use Rattle.tables.proofs.all_zero.Statement.{statement}
 use Rattle.tables.proofs.all_zero.Tie as tie
 
+none-requires : tie.Need-none-requires
+none-requires c κs = search needs
+
 unused-requires : tie.Need-unused-requires
 unused-requires c κs = search needs
 
 returns : tie.Need-returns
 unfolding allZero
-returns c = c .unused .ensures
+returns c = rw (← c .before .none .ensures) (c .unused .ensures)
 
 pub all-zero-spec : {M : Type 1} → statement M
-all-zero-spec = tie.close (tie.spec unused-requires returns)
+all-zero-spec = tie.close (tie.spec none-requires unused-requires returns)

@@ -1,7 +1,6 @@
 -- `wake::wake` meets its contract: what leaves its queue is in hand, and so it can be made ready.
 use mathlib.Core.List.{[]}
 use native.Mathlib.Omega.{arith}
-use Rattle.tables.specs.State.{read}
 use Rattle.lawful.proofs.Leave.{leave}
 use Rattle.scheduler.proofs.Shaped.{hand-loose}
 use Rattle.scheduler.proofs.wake.wake.Statement.{statement}

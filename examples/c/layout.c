@@ -1,0 +1,191 @@
+/* Tests that the structs of khilzurgee.h are those of the library: plays calls
+   that set every field, and holds what this program reads there to what the
+   rules say. Exit status: 0 every field is where the header has it, 1 not. */
+#include <stdio.h>
+#include <string.h>
+
+#include "khilzurgee.h"
+
+static int wrong;
+
+static void is(const char *what, uint64_t found, uint64_t wanted)
+{
+    if (found != wanted) {
+        printf("%s is %llu and not %llu\n", what, (unsigned long long)found, (unsigned long long)wanted);
+        wrong = 1;
+    }
+}
+
+#define IS(field, wanted) is(#field, (uint64_t)(field), wanted)
+
+/* The image: two modules, N 5, events 0, 3 and 63 defined. */
+static void make_image(uint8_t *image)
+{
+    static const uint8_t head[] = {
+        1, 2, 5, 0, 0, 0, 0, 0,             /* form, M, N, zero */
+        9, 0, 0, 0, 0, 0, 0, 0x80,          /* defined events */
+        2, 30, 1, 0, 0x78, 0x56, 0x34, 0x12, /* module 0 */
+        3, 0, 0, 0, 7                       /* module 1 */
+    };
+    memset(image, 0, KHILZURGEE_IMAGE_LENGTH);
+    memcpy(image, head, sizeof head);
+    unsigned long sum = 0;
+    for (unsigned i = 0; i < 510; i++) {
+        sum += (i + 1ul) * image[i];
+    }
+    unsigned long check = 1 + sum % 65521;
+    image[510] = (uint8_t)check;
+    image[511] = (uint8_t)(check >> 8);
+}
+
+/* One call that has to be accepted; its answer. */
+static struct khilzurgee_line call(struct khilzurgee_tables *t, uint8_t code,
+                                   uint8_t kind, uint8_t number, uint8_t value,
+                                   uint32_t amount, uint64_t set)
+{
+    uint8_t bytes[KHILZURGEE_CALL_LENGTH] = {code, kind, number, value};
+    for (unsigned i = 0; i < 4; i++) {
+        bytes[4 + i] = (uint8_t)(amount >> 8 * i);
+    }
+    for (unsigned i = 0; i < 8; i++) {
+        bytes[8 + i] = (uint8_t)(set >> 8 * i);
+    }
+    struct khilzurgee_line line = khilzurgee_advance(t, bytes, sizeof bytes);
+    is("the refusal of a call", line.refusal, 0);
+    is("the running task of an answer", line.running, t->running);
+    return line;
+}
+
+enum {
+    LINK = 5,
+    SCHEDULE = 7,
+    SIGNAL = 9,
+    READ = 13,
+    WRITE = 14,
+    CHECK = 15,
+    TIMER = 32,
+    START = 35
+};
+
+static void after_load(const struct khilzurgee_tables *t)
+{
+    IS(t->directory.modules, 2);
+    IS(t->directory.every, 5);
+    IS(t->directory.defined, 0x8000000000000009u);
+    IS(t->directory.entries[0].level, 2);
+    IS(t->directory.entries[0].units, 30);
+    IS(t->directory.entries[0].flags, 1);
+    IS(t->directory.entries[0].point, 0x12345678u);
+    IS(t->directory.entries[1].level, 3);
+    IS(t->directory.entries[1].point, 7);
+    IS(t->idle, 0x1fffffeu);
+    IS(t->spare, 0x1fffeu);
+    IS(t->clock, 0);
+    IS(t->running, 0);
+}
+
+/* Task 1 starts and links to task 2, which schedules 3 on events, 4 by time, 5
+   with core beside its own and 6, for which there is none; it reads, writes and
+   waits in CHECK for the write, and 5 runs. */
+static void after_calls(struct khilzurgee_tables *t)
+{
+    call(t, TIMER, 0, 0, 0, 0, 0);
+    call(t, START, 0, 1, 0, 0, 0);
+    is("the child's block", call(t, LINK, 0, 0, 0, 0, 0).result, 2);
+    call(t, SIGNAL, 0, 63, 1, 0, 0);
+    call(t, SCHEDULE, 1, 1, 2, 0, 9);
+    call(t, SCHEDULE, 2, 1, 0, 0x01020304, 0);
+    call(t, SCHEDULE, 0, 0, 0, 0, 0);
+    call(t, SCHEDULE, 0, 0, 0, 0, 0);
+    is("the first request", call(t, READ, 0, 200, 0, 0x1234, 0).result, 1);
+    is("the second request", call(t, WRITE, 0, 201, 0, 0x5678, 0).result, 2);
+    IS(t->running, 2);
+    IS(t->tasks[2].place, 1);
+    call(t, CHECK, 0, 2, 0, 0, 0);
+
+    IS(t->clock, 1);
+    IS(t->on, 0x8000000000000000u);
+    IS(t->running, 5);
+    IS(t->channel, 1);
+    IS(t->idle, 0x1ffff80u);
+    IS(t->spare, 0x1fff8u);
+    IS(t->pools[2], 0xfffffffffffffffu);
+    IS(t->tasks[1].place, 6);
+    IS(t->tasks[1].program, 1);
+    IS(t->tasks[2].place, 7);
+    IS(t->tasks[2].parent, 1);
+    IS(t->tasks[2].core, 1);
+    IS(t->tasks[2].request, 2);
+    IS(t->tasks[3].place, 4);
+    IS(t->tasks[3].count, 2);
+    IS(t->tasks[3].events, 9);
+    IS(t->tasks[4].place, 5);
+    IS(t->tasks[4].time, 0x01020304);
+    IS(t->tasks[5].place, 1);
+    IS(t->tasks[5].start, 30);
+    IS(t->tasks[6].place, 3);
+    IS(t->requests[1].place, 2);
+    IS(t->requests[1].owner, 2);
+    IS(t->requests[1].device, 200);
+    IS(t->requests[1].command, READ);
+    IS(t->requests[1].bytes, 0x1234);
+    IS(t->requests[2].place, 1);
+    IS(t->requests[2].command, WRITE);
+    IS(t->requests[2].bytes, 0x5678);
+}
+
+/* Two more event waiters stand behind task 3: the pointers of the queue. */
+static void after_waiters(struct khilzurgee_tables *t)
+{
+    is("a started task", call(t, START, 0, 1, 0, 0, 0).result, 7);
+    call(t, SCHEDULE, 1, 1, 1, 0, 1);
+    call(t, SCHEDULE, 1, 1, 1, 0, 8);
+    IS(t->threads.first[0], 3);
+    IS(t->threads.last[0], 9);
+    IS(t->threads.fwd[3], 8);
+    IS(t->threads.fwd[8], 9);
+    IS(t->threads.back[9], 8);
+    IS(t->threads.back[8], 3);
+    IS(t->threads.first[3], 7);
+    IS(t->threads.first[7], 4);
+    IS(t->threads.first[8], KHILZURGEE_TASKS + 2);
+    IS(t->threads.last[5], 6);
+}
+
+/* Tables may hold anything: those that break a rule are answered by 9, and are
+   left as they were. */
+static void broken(const struct khilzurgee_tables *good)
+{
+    static const uint8_t timer[KHILZURGEE_CALL_LENGTH] = {TIMER};
+    struct khilzurgee_tables t = *good;
+    t.running = 3;
+    struct khilzurgee_line line = khilzurgee_advance(&t, timer, sizeof timer);
+    is("the refusal on broken tables", line.refusal, 9);
+    is("the running task on broken tables", line.running, 0);
+    IS(t.running, 3);
+    IS(t.clock, good->clock);
+    memset(&t, 0xff, sizeof t);
+    is("the refusal on tables of ones", khilzurgee_advance(&t, timer, sizeof timer).refusal, 9);
+    is("the refusal of a load of no bytes", khilzurgee_load(&t, timer, 0).refusal, KHILZURGEE_BAD_LENGTH);
+    IS(t.threads.last[8], 0);
+    is("the refusal on all-zero tables", khilzurgee_advance(&t, timer, sizeof timer).refusal, 9);
+}
+
+int main(void)
+{
+    static struct khilzurgee_tables tables;
+    uint8_t image[KHILZURGEE_IMAGE_LENGTH];
+    make_image(image);
+    is("the image check", khilzurgee_image_check(image, sizeof image), KHILZURGEE_ACCEPTED);
+    struct khilzurgee_line line = khilzurgee_load(&tables, image, sizeof image);
+    is("the refusal of the load", line.refusal, 0);
+    is("the result of the load", line.result, 2);
+    after_load(&tables);
+    after_calls(&tables);
+    after_waiters(&tables);
+    broken(&tables);
+    if (!wrong) {
+        printf("every field of the tables is where the header has it\n");
+    }
+    return wrong;
+}

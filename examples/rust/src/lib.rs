@@ -1,0 +1,61 @@
+//! The executive of a report station, for Rust: a safe type over the proved library.
+//!
+//! The library has no state of its own: a [`Station`] owns the tables, and every function gives a definite answer to any bytes.
+
+#![deny(unsafe_op_in_unsafe_fn)]
+
+mod tables;
+
+pub use tables::{Answer, Directory, Entry, Request, Tables, Task, Threads};
+
+extern "C" {
+    fn khilzurgee_image_check(bytes: *const u8, length: usize) -> u8;
+    fn khilzurgee_load(tables: *mut Tables, image: *const u8, length: usize) -> Answer;
+    fn khilzurgee_advance(tables: *mut Tables, call: *const u8, length: usize) -> Answer;
+}
+
+/// The number by which loading would refuse the image, 0 for none.
+pub fn image_check(image: &[u8]) -> u8 {
+    // SAFETY: the pointer and the length are one slice's, and a slice's pointer is never null. The function reads these bytes alone.
+    unsafe { khilzurgee_image_check(image.as_ptr(), image.len()) }
+}
+
+/// An executive with its tables.
+#[derive(Clone, Debug, PartialEq, Eq)]
+pub struct Station {
+    tables: Tables,
+}
+
+impl Station {
+    /// Loads an image, from any bytes. A refused one gives the number of its refusal, 1 to 7.
+    pub fn load(image: &[u8]) -> Result<Station, u8> {
+        // SAFETY: the tables are whole numbers and arrays of them, so all bits zero is a value of theirs.
+        let mut tables: Tables = unsafe { std::mem::zeroed() };
+        // SAFETY: the tables are a local that nothing else refers to, and the slice lies outside them. The function reads the slice, writes the tables,
+        // and keeps neither pointer.
+        let answer = unsafe { khilzurgee_load(&mut tables, image.as_ptr(), image.len()) };
+        match answer.refusal {
+            0 => Ok(Station { tables }),
+            refusal => Err(refusal),
+        }
+    }
+
+    /// Answers one call, of any bytes. A refused call leaves the station as it was.
+    pub fn call(&mut self, call: &[u8]) -> Answer {
+        // SAFETY: `&mut self` makes the tables this call's alone, so the slice lies outside them. The function reads the slice, reads and writes the
+        // tables, and keeps neither pointer.
+        unsafe { khilzurgee_advance(&mut self.tables, call.as_ptr(), call.len()) }
+    }
+
+    /// The tables, to look into or to store.
+    pub fn tables(&self) -> &Tables {
+        &self.tables
+    }
+}
+
+/// Tables that were stored, whatever they hold now: where they break the table rules, every call is refused by 9.
+impl From<Tables> for Station {
+    fn from(tables: Tables) -> Station {
+        Station { tables }
+    }
+}

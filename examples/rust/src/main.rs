@@ -1,0 +1,59 @@
+//! Plays a session: reads an image of 512 bytes and then calls of 16 bytes each, and prints the three numbers of the load and of each call, a line each, as
+//! the desk does.
+//!
+//! usage: `session FILE`, with `-` for the standard input. Exit status: 0 the session was played, 1 the image was refused, 2 something could not be read or
+//! written.
+
+use khilzurgee::{Answer, Station};
+use std::io::{self, BufWriter, Read, Write};
+use std::process::ExitCode;
+
+fn read(name: &str) -> io::Result<Vec<u8>> {
+    if name != "-" {
+        return std::fs::read(name);
+    }
+    let mut bytes = Vec::new();
+    io::stdin().read_to_end(&mut bytes)?;
+    Ok(bytes)
+}
+
+/// The load, and the calls where it is accepted. Fewer than 16 bytes at the end are a call too: it is refused by 10.
+fn play(input: &[u8], out: &mut impl Write) -> io::Result<bool> {
+    let (image, calls) = input.split_at(input.len().min(512));
+    let loaded = Station::load(image);
+    let (refusal, result) = match &loaded {
+        Ok(station) => (0, station.tables().directory.modules),
+        Err(refusal) => (*refusal, 0),
+    };
+    writeln!(out, "{}", Answer { refusal, result, running: 0 })?;
+    let Ok(mut station) = loaded else {
+        return Ok(false);
+    };
+    for call in calls.chunks(16) {
+        writeln!(out, "{}", station.call(call))?;
+    }
+    Ok(true)
+}
+
+fn run(name: &str) -> io::Result<bool> {
+    let mut out = BufWriter::new(io::stdout().lock());
+    let accepted = play(&read(name)?, &mut out)?;
+    out.flush()?;
+    Ok(accepted)
+}
+
+fn main() -> ExitCode {
+    let arguments: Vec<String> = std::env::args().collect();
+    let [_, name] = arguments.as_slice() else {
+        eprintln!("usage: session FILE (- for the standard input)");
+        return ExitCode::from(2);
+    };
+    match run(name) {
+        Ok(true) => ExitCode::SUCCESS,
+        Ok(false) => ExitCode::from(1),
+        Err(error) => {
+            eprintln!("session: {name}: {error}");
+            ExitCode::from(2)
+        }
+    }
+}

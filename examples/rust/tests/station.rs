@@ -1,0 +1,65 @@
+//! What the safe type promises: the document's first calls, refused images, and tables that hold anything.
+
+use khilzurgee::{image_check, Answer, Station};
+
+/// The image of the session in full: N 2, events 0 and 1, three modules; its check is 1,906.
+fn image() -> [u8; 512] {
+    let mut image = [0; 512];
+    image[..3].copy_from_slice(&[1, 3, 2]);
+    image[8] = 3;
+    image[16..18].copy_from_slice(&[2, 40]);
+    image[24] = 1;
+    image[32..34].copy_from_slice(&[2, 30]);
+    image[510..].copy_from_slice(&1906u16.to_le_bytes());
+    image
+}
+
+/// A call with a code and a number, and nothing else.
+fn call(code: u8, number: u8) -> [u8; 16] {
+    let mut call = [0; 16];
+    call[0] = code;
+    call[2] = number;
+    call
+}
+
+fn answer(refusal: u8, result: u8, running: u8) -> Answer {
+    Answer { refusal, result, running }
+}
+
+#[test]
+fn first_calls() {
+    let mut station = Station::load(&image()).expect("a good image");
+    assert_eq!(station.tables().directory.modules, 3);
+    assert_eq!(station.call(&call(35, 0)), answer(0, 1, 1));
+    assert_eq!(station.call(&call(7, 2)), answer(0, 2, 1));
+    assert_eq!(station.tables().tasks[2].program, 2);
+    assert_eq!(station.call(&call(10, 5)).to_string(), "19 0 1");
+}
+
+#[test]
+fn refused_images() {
+    assert_eq!(image_check(&image()), 0);
+    for (wrong, refusal) in [(&image()[..511], 1), (&[][..], 1), (&[0; 512][..], 2)] {
+        assert_eq!(image_check(wrong), refusal);
+        assert_eq!(Station::load(wrong), Err(refusal));
+    }
+}
+
+#[test]
+fn refused_calls_leave_the_tables() {
+    let mut station = Station::load(&image()).expect("a good image");
+    let before = station.clone();
+    assert_eq!(station.call(&[]), answer(10, 0, 0));
+    assert_eq!(station.call(&[32; 17]), answer(10, 0, 0));
+    assert_eq!(station.call(&call(6, 0)), answer(11, 0, 0));
+    assert_eq!(station, before);
+}
+
+#[test]
+fn broken_tables_are_9() {
+    let mut tables = *Station::load(&image()).expect("a good image").tables();
+    tables.running = 24;
+    let mut station = Station::from(tables);
+    assert_eq!(station.call(&call(32, 0)), answer(9, 0, 0));
+    assert_eq!(*station.tables(), tables);
+}
