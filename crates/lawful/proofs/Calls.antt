@@ -1,17 +1,16 @@
 -- The calls that make a task or wait: from the rules, to all of them but that nobody is ready while no task runs, which the dispatch brings back. A new
 -- task is in hand until it is ready or waits; so is the caller of WAIT.
 use mathlib.Core.Bool.{Bool, true, false, cond}
-use mathlib.Core.Path.{_≡_, refl, ap}
+use mathlib.Core.Path.{_≡_, refl}
 use mathlib.Core.Logic.{_≢_, ⊎-elim}
 use mathlib.Core.List.{List, []}
 use Prim.Native.Nat.{ℕ, _≤_, _<_}
 use native.Mathlib.Omega.{arith}
 use lib.ListN.{set}
 use lib.Seq.{getD-set-other}
-use Rattle.threads.specs.Threads.{count}
 use Rattle.threads.proofs.Lists.{tested}
 use Rattle.words.specs.Words.{least}
-use Rattle.tables.specs.State.{State, eventQueue, coreQueue, queue, withRunning}
+use Rattle.tables.specs.State.{State, withRunning}
 use Rattle.tables.specs.Blocks.{noTask}
 use Rattle.calls.specs.declared.Call.{Call}
 use Rattle.meaning.specs.Conditions.{enough, holds, dueOf, waiting, awaitsEvents, awaitsTime}
@@ -25,7 +24,7 @@ use Rattle.lawful.proofs.Made.{made-ready}
 use Rattle.lawful.proofs.Leave.{stop}
 use Rattle.lawful.proofs.Free.{least-in, least-some, least-low}
 use Rattle.lawful.proofs.Create.{create}
-use Rattle.lawful.proofs.Resting.{rest-beside, rest-made}
+use Rattle.lawful.proofs.Resting.{rest-alone, rest-made}
 use Rattle.lawful.proofs.Waits.{await-event, event-rest, await-time, time-rest}
 
 pub settled : {s : State} → Shape s [] 0 → Rest s [] → Settled s
@@ -52,17 +51,7 @@ module _ {s : State} (g : Lawful s) (m : ℕ) (known : m < s .directory .modules
     pub new-rest : Rest (created s k m p) []
     unfolding created
     new-rest =
-        rest-beside {s = s} {k = k} (record {
-          directory = refl;
-          on = refl;
-          channel = refl;
-          tasks = λ y d. getD-set-other (s .tasks) k y _ noTask d;
-          pools = λ level lo hi. refl;
-          event = λ y c. (c, λ z. omega (arith, c, hand-count new eventQueue (omega arith), ap (λ (w : ℕ). count w (queue s eventQueue)) z));
-          core = λ level lo hi. refl;
-          out = λ level lo hi. hand-count new (coreQueue level) (omega arith);
-          requested = refl;
-        }) (g .rest)
+        rest-alone {s = s} {k = k} refl refl refl refl refl (λ y d. getD-set-other (s .tasks) k y _ noTask d) (hand-count new) (g .rest)
 
   pub new-apart : 0 ≢ k
   new-apart z = let b = g .shape .blank in omega (arith, z, least-some (s .idle) 25 (omega arith) (b .idle) some (b .idle-none))

@@ -25,6 +25,7 @@ use Rattle.lawful.specs.Resting.{Asleep, Stuck, Rest, Lawful, Settled}
 use Rattle.lawful.proofs.Tests.{emptied, filled}
 use Rattle.lawful.proofs.Shape.{one-same, one-other, one-eq}
 use Rattle.lawful.proofs.Queues.{count-cons, count-without, count-placed, set-nine, set-queue, set-others, up-same, up-placed, up-without}
+use Rattle.lawful.proofs.Made.{put-fields}
 use Rattle.lawful.proofs.Enter.{hand-stands}
 use Rattle.lawful.proofs.Members.{channel-high, channel-low, channel-queued, runs-place, runs-stands}
 use Rattle.lawful.proofs.Leave.{stop}
@@ -238,24 +239,14 @@ transfer-keeps c g n some lo k b = transfer-settled g n some (c .number) (c .cod
 check-fields : {s : State} {k : ℕ} {h : List ℕ} {e : ℕ} (i : InHand s k h e) (w : ℕ) → (1 ≤ unitsOf s k → taskAt s k .core ≡ 0 → ⊥)
     → Fields (s .directory) InCheck (let t = taskAt s k in task InCheck t.program t.parent t.core t.start 0 0 0 w)
 check-fields i w n =
-    let f = hand-stands i .fields in
-    record {
-      kind = omega arith;
-      place = omega arith;
-      free = λ z. absurd (omega (arith, z));
-      program = λ z. f .program (λ i. omega (arith, i));
-      parent = f .parent;
-      core = f .core;
-      inside = f .inside;
-      start = f .start;
-      unneeded = f .unneeded;
+    put-fields (hand-stands i .fields) (omega arith) (omega arith) (record {
       waits = λ z. absurd (omega (arith, z));
       needs = λ i j. absurd (n i j);
-      event = λ i j. omega arith;
-      time = λ i j. refl;
-      request = λ i j. absurd (i refl);
+      event = λ i. refl;
+      time = λ i. refl;
+      request = λ i. absurd (i refl);
       passes = λ z. absurd (omega (arith, z));
-    }
+    })
 
 module _ {s : State} (g : Lawful s) (n : s .running ≢ 0) (r : ℕ) (some : 1 ≤ r) (low : r ≤ 16) (used : requestAt s r .place ≢ 0) (own : requestAt s r .owner ≡ s .running) where
   pub check-settled : Settled (if eqb (requestAt s r .place) Done then freedRequest s r else awaitsRequest s r)

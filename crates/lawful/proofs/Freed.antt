@@ -13,7 +13,7 @@ use Rattle.words.specs.Words.{_among_, adding}
 use Rattle.words.proofs.Changes.{adding-low}
 use Rattle.image.specs.declared.Directory.{Directory}
 use Rattle.tables.specs.declared.Task.{Task}
-use Rattle.tables.specs.State.{State, eventQueue, timeQueue, coreQueue, state, taskAt, requestAt, queue}
+use Rattle.tables.specs.State.{State, timeQueue, state, taskAt, requestAt, queue}
 use Rattle.tables.specs.Blocks.{Free, Running, InLink, noTask}
 use Rattle.meaning.specs.Finish.{freedTask}
 use Rattle.meaning.specs.Rules.{queueFor}
@@ -26,7 +26,7 @@ use Rattle.lawful.proofs.Queues.{up-same}
 use Rattle.lawful.proofs.Cored.{holding-none}
 use Rattle.lawful.proofs.Free.{added-same, added-other}
 use Rattle.lawful.proofs.Enter.{hand-count, hand-runs}
-use Rattle.lawful.proofs.Resting.{rest-beside}
+use Rattle.lawful.proofs.Resting.{rest-alone}
 
 -- a block that is zero is free
 pub free-fields : (d : Directory) → Fields d Free noTask
@@ -134,14 +134,4 @@ module _ {s : State} {k : ℕ} {h : List ℕ} {e : ℕ} (i : InHand s k h e) (co
   pub free-rest : {m : List ℕ} → Rest s m → Rest (freedTask s k) m
   unfolding freedTask
   free-rest r =
-      rest-beside {s = s} {k = k} (record {
-        directory = refl;
-        on = refl;
-        channel = refl;
-        tasks = other;
-        pools = λ level lo hi. refl;
-        event = λ y c. (c, λ z. omega (arith, c, hand-count i eventQueue (omega arith), ap (λ (x : ℕ). count x (queue s eventQueue)) z));
-        core = λ level lo hi. refl;
-        out = λ level lo hi. hand-count i (coreQueue level) (omega arith);
-        requested = refl;
-      }) r
+      rest-alone {s = s} {k = k} refl refl refl refl refl other (hand-count i) r

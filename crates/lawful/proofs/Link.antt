@@ -9,7 +9,7 @@ use lib.Seq.{getD-set-other}
 use Rattle.threads.specs.Threads.{count}
 use Rattle.words.specs.Words.{least}
 use Rattle.tables.specs.declared.Task.{Task}
-use Rattle.tables.specs.State.{State, eventQueue, timeQueue, coreQueue, taskAt, queue, levelOf, unitsOf, withRunning}
+use Rattle.tables.specs.State.{State, timeQueue, taskAt, queue, levelOf, unitsOf, withRunning}
 use Rattle.tables.specs.Blocks.{Free, Running, InLink, InCheck, Ending, noTask}
 use Rattle.calls.specs.declared.Call.{Call}
 use Rattle.meaning.specs.Ready.{madeReady}
@@ -25,7 +25,7 @@ use Rattle.lawful.proofs.Made.{made-ready, plain-fields}
 use Rattle.lawful.proofs.Leave.{stop}
 use Rattle.lawful.proofs.Members.{runs-place, runs-stands, queue-place}
 use Rattle.lawful.proofs.Free.{least-in}
-use Rattle.lawful.proofs.Resting.{rest-beside, rest-made}
+use Rattle.lawful.proofs.Resting.{rest-alone, rest-made}
 use Rattle.lawful.proofs.Calls.{settled, new, new-rest, rest-stopped}
 
 -- ---- Parking.
@@ -64,17 +64,7 @@ module _ {s : State} {k : ℕ} {h : List ℕ} {e : ℕ} (i : InHand s k h e) (p 
 
   pub park-rest : {m : List ℕ} → Rest s m → Rest (putting s k p 0 0 0 w (s .queues) (s .running)) m
   park-rest r =
-      rest-beside {s = s} {k = k} (record {
-        directory = refl;
-        on = refl;
-        channel = refl;
-        tasks = λ y d. getD-set-other (s .tasks) k y _ noTask d;
-        pools = λ level lo hi. refl;
-        event = λ y c. (c, λ z. omega (arith, c, hand-count i eventQueue (omega arith), ap (λ (x : ℕ). count x (queue s eventQueue)) z));
-        core = λ level lo hi. refl;
-        out = λ level lo hi. hand-count i (coreQueue level) (omega arith);
-        requested = refl;
-      }) r
+      rest-alone {s = s} {k = k} refl refl refl refl refl (λ y d. getD-set-other (s .tasks) k y _ noTask d) (hand-count i) r
 
 -- ---- LINK.
 module _ {s : State} (g : Lawful s) (m : ℕ) (known : m < s .directory .modules) (some : s .idle ≢ 0) (n : s .running ≢ 0) where

@@ -3,19 +3,20 @@ use mathlib.Core.Bool.{Bool, true, false, cond, not, _||_, true≢false}
 use mathlib.Core.Path.{_≡_, refl, sym, ap, ap₂, _∙_}
 use mathlib.Core.Logic.{_≢_, ⊎-elim}
 use mathlib.Core.List.{List, [], _∷_, _++_}
-use Prim.Native.Nat.{ℕ, _≤_, _<_}
+use Prim.Native.Nat.{ℕ, _+_, _≤_, _<_}
 use native.Mathlib.Omega.{arith}
 use lib.ListN.{set, getD}
 use lib.Seq.{getD-set-same, getD-set-other}
+use lib.Bits.{bitAnd}
 use lib.Dec.{ltb}
 use borrow.Author.Tests.{ltb-true, ltb-false}
 use Rattle.threads.specs.Threads.{hd, count}
 use Rattle.threads.proofs.Lists.{tested}
-use Rattle.words.specs.Words.{isEmpty}
+use Rattle.words.specs.Words.{isEmpty, size}
 use Rattle.image.specs.declared.Directory.{Directory}
 use Rattle.tables.specs.declared.Task.{Task}
 use Rattle.tables.specs.State.{State, eventQueue, timeQueue, channelQueue, coreQueue, taskAt, poolAt, queue, levelOf, unitsOf, joining}
-use Rattle.tables.specs.Blocks.{Free, Ready, InCore, InEvent, noTask, task}
+use Rattle.tables.specs.Blocks.{Free, Running, Ready, InCore, InEvent, InTime, InLink, InCheck, Ending, noTask, task}
 use Rattle.pools.specs.Pools.{startOf}
 use Rattle.meaning.specs.Ready.{placed, startFor, fits, needsCore, granted, readied, awaitsCore, madeReady}
 use Rattle.meaning.specs.Conditions.{enough}
@@ -50,48 +51,60 @@ pub record Made (s s′ : State) (k : ℕ) (h : List ℕ) (e : ℕ) : Type 0 whe
   pub frame : Frame s s′ k
   pub stuck : (level : ℕ) → 1 ≤ level → level ≤ 3 → Stuck s level → Stuck s′ level
 
--- ---- The fields of a block that was in hand, in a place of no fields of its own.
-pub plain-fields : {d : Directory} {t : Task} {p : ℕ} → Fields d Hand t → 1 ≤ p → p ≤ 8 → p ≢ InCore → p ≢ InEvent
-    → (1 ≤ moduleOf d t .units → t .core ≡ 0 → ⊥) → Fields d p (task p t.program t.parent t.core t.start 0 0 0 0)
-plain-fields f a b c e n =
+-- ---- The fields of a block that was in hand, put in a place: what the place asks is all that is left to show.
+pub record Asked (d : Directory) (t : Task) (p n v x w : ℕ) : Type 0 where
+  pub waits : p ≡ InCore → (1 ≤ moduleOf d t .units) × (t .core ≡ 0)
+  pub needs : 1 ≤ moduleOf d t .units → t .core ≡ 0 → (p ≢ Running) × (p ≢ Ready) × (p ≢ InLink) × (p ≢ InCheck) × (p ≢ Ending)
+  pub event : p ≢ InEvent → n + v ≡ 0
+  pub time : p ≢ InTime → x ≡ 0
+  pub request : p ≢ InCheck → w ≡ 0
+  pub passes : p ≡ InEvent → (bitAnd v (d .defined) ≡ v) × (1 ≤ n) × (n ≤ size v)
+
+pub put-fields : {d : Directory} {t : Task} {p n v x w : ℕ} → Fields d Hand t → 1 ≤ p → p ≤ 8 → Asked d t p n v x w
+    → Fields d p (task p t.program t.parent t.core t.start n v x w)
+put-fields f a b q =
     record {
-      kind = omega arith;
-      place = omega arith;
-      free = λ z. absurd (omega (arith, z));
+      kind = omega (arith, b);
+      place = b;
+      free = λ z. absurd (omega (arith, z, a));
       program = λ z. f .program (λ i. omega (arith, i));
       parent = f .parent;
       core = f .core;
       inside = f .inside;
       start = f .start;
       unneeded = f .unneeded;
+      waits = q .waits;
+      needs = q .needs;
+      event = λ i j. q .event i;
+      time = λ i j. q .time i;
+      request = λ i j. q .request i;
+      passes = q .passes;
+    }
+
+-- in a place of no fields of its own
+pub plain-fields : {d : Directory} {t : Task} {p : ℕ} → Fields d Hand t → 1 ≤ p → p ≤ 8 → p ≢ InCore → p ≢ InEvent
+    → (1 ≤ moduleOf d t .units → t .core ≡ 0 → ⊥) → Fields d p (task p t.program t.parent t.core t.start 0 0 0 0)
+plain-fields f a b c e n =
+    put-fields f a b (record {
       waits = λ z. absurd (c z);
       needs = λ i j. absurd (n i j);
-      event = λ i j. omega arith;
-      time = λ i j. refl;
-      request = λ i j. refl;
+      event = λ i. refl;
+      time = λ i. refl;
+      request = λ i. refl;
       passes = λ z. absurd (e z);
-    }
+    })
 
 pub waiting-fields : {d : Directory} {t : Task} → Fields d Hand t → 1 ≤ moduleOf d t .units → t .core ≡ 0
     → Fields d InCore (task InCore t.program t.parent t.core t.start 0 0 0 0)
 waiting-fields f n c =
-    record {
-      kind = omega arith;
-      place = omega arith;
-      free = λ z. absurd (omega (arith, z));
-      program = λ z. f .program (λ i. omega (arith, i));
-      parent = f .parent;
-      core = f .core;
-      inside = f .inside;
-      start = f .start;
-      unneeded = f .unneeded;
+    put-fields f (omega arith) (omega arith) (record {
       waits = λ z. (n, c);
       needs = λ i j. omega arith;
-      event = λ i j. omega arith;
-      time = λ i j. refl;
-      request = λ i j. refl;
+      event = λ i. refl;
+      time = λ i. refl;
+      request = λ i. refl;
       passes = λ z. absurd (omega (arith, z));
-    }
+    })
 
 -- ---- The rules of rest, where nothing that they read has changed.
 pub stuck-same : {s s′ : State} {level : ℕ} → queue s′ (coreQueue level) ≡ queue s (coreQueue level) → poolAt s′ level ≡ poolAt s level

@@ -1,8 +1,9 @@
 -- The rules of rest under a change of one block that is in hand: it is in none of the queues that they read.
 use mathlib.Core.Path.{_≡_, sym, ap, ap₂, _∙_}
 use mathlib.Core.Logic.{_≢_}
-use mathlib.Core.List.{List}
+use mathlib.Core.List.{List, []}
 use Prim.Native.Nat.{ℕ, _≤_, _<_}
+use lib.ListN.{getD}
 use native.Mathlib.Omega.{arith}
 use Rattle.threads.specs.Threads.{count}
 use Rattle.image.specs.declared.Directory.{Directory}
@@ -52,6 +53,23 @@ module _ {s s′ : State} {k : ℕ} (b : Beside s s′ k) where
         stuck = λ level lo hi. stuck-beside level lo hi (r .stuck level lo hi);
         flowing = record { flowing = λ x c. b .requested ∙ r .flowing .flowing x (sym (b .channel) ∙ c) };
       }
+
+-- a block of no queue changes by itself, and the queues stay
+pub rest-alone : {s s′ : State} {k : ℕ} → s′ .directory ≡ s .directory → s′ .on ≡ s .on → s′ .channel ≡ s .channel → s′ .pools ≡ s .pools → s′ .queues ≡ s .queues
+    → ((y : ℕ) → y ≢ k → taskAt s′ y ≡ taskAt s y) → ((q : ℕ) → q < 9 → count k (queue s q) ≡ 0) → {m : List ℕ} → Rest s m → Rest s′ m
+rest-alone {s} {s′} {k} d o c p q t n r =
+    let same : (i : ℕ) → queue s′ i ≡ queue s i = λ i. ap (λ (l : List (List ℕ)). getD l i []) q in
+    rest-beside {s = s} {k = k} (record {
+      directory = d;
+      on = o;
+      channel = c;
+      tasks = t;
+      pools = λ level lo hi. ap (λ (l : List ℕ). getD l level 0) p;
+      event = λ y w. let w′ = rw (same eventQueue) at w in (w′, λ z. omega (arith, w′, n eventQueue (omega arith), ap (λ (x : ℕ). count x (queue s eventQueue)) z));
+      core = λ level lo hi. same (coreQueue level);
+      out = λ level lo hi. n (coreQueue level) (omega arith);
+      requested = same channelQueue;
+    }) r
 
 -- ---- Getting ready.
 module _ {s s′ : State} {k : ℕ} {h : List ℕ} {e : ℕ} (i : InHand s k h e) (d : Made s s′ k h e) where

@@ -25,49 +25,31 @@ use Rattle.lawful.proofs.Put.{block}
 use Rattle.lawful.proofs.Queues.{set-queue, set-others, up-same, up-placed, count-last, count-placed}
 use Rattle.lawful.proofs.Enter.{hand-stands, hand-count, enter, enter-other}
 use Rattle.lawful.proofs.Resting.{rest-beside}
-use Rattle.lawful.proofs.Made.{stuck-same}
+use Rattle.lawful.proofs.Made.{put-fields, stuck-same}
 use Rattle.lawful.proofs.Sums.{field-kept}
 
 event-fields : {d : Directory} {t : Task} {n v : ℕ} → Fields d Hand t → (bitAnd v (d .defined) ≡ v) × (1 ≤ n) × (n ≤ size v)
     → Fields d InEvent (task InEvent t.program t.parent t.core t.start n v 0 0)
 event-fields f p =
-    record {
-      kind = omega arith;
-      place = omega arith;
-      free = λ z. absurd (omega (arith, z));
-      program = λ z. f .program (λ i. omega (arith, i));
-      parent = f .parent;
-      core = f .core;
-      inside = f .inside;
-      start = f .start;
-      unneeded = f .unneeded;
+    put-fields f (omega arith) (omega arith) (record {
       waits = λ z. absurd (omega (arith, z));
       needs = λ i j. omega arith;
-      event = λ i j. absurd (i refl);
-      time = λ i j. refl;
-      request = λ i j. refl;
+      event = λ i. absurd (i refl);
+      time = λ i. refl;
+      request = λ i. refl;
       passes = λ z. p;
-    }
+    })
 
 time-fields : {d : Directory} {t : Task} {x : ℕ} → Fields d Hand t → Fields d InTime (task InTime t.program t.parent t.core t.start 0 0 x 0)
 time-fields f =
-    record {
-      kind = omega arith;
-      place = omega arith;
-      free = λ z. absurd (omega (arith, z));
-      program = λ z. f .program (λ i. omega (arith, i));
-      parent = f .parent;
-      core = f .core;
-      inside = f .inside;
-      start = f .start;
-      unneeded = f .unneeded;
+    put-fields f (omega arith) (omega arith) (record {
       waits = λ z. absurd (omega (arith, z));
       needs = λ i j. omega arith;
-      event = λ i j. omega arith;
-      time = λ i j. absurd (i refl);
-      request = λ i j. refl;
+      event = λ i. refl;
+      time = λ i. absurd (i refl);
+      request = λ i. refl;
       passes = λ z. absurd (omega (arith, z));
-    }
+    })
 
 module _ {s : State} {k : ℕ} {h : List ℕ} {e : ℕ} (i : InHand s k h e) where
   nine : length (s .queues) ≡ 9

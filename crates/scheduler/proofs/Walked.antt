@@ -8,7 +8,7 @@ use native.Mathlib.Omega.{arith}
 use lib.ListN.{length, getD}
 use lib.Dec.{leb}
 use Rattle.threads.specs.Threads.{hd, count, without, walk, Sound}
-use Rattle.threads.proofs.Lists.{count-append, count-hit, without-at}
+use Rattle.threads.proofs.Lists.{tested, count-append, count-hit, without-at}
 use Rattle.words.specs.Words.{if_then_else_, each}
 use Rattle.tables.specs.declared.Tables.{Tables}
 use Rattle.tables.specs.State.{State, eventQueue, timeQueue, taskAt, queue, leaving, read}
@@ -22,7 +22,7 @@ use Rattle.lawful.proofs.Queues.{set-queue}
 use Rattle.lawful.proofs.Members.{member-once}
 use Rattle.lawful.proofs.Leave.{leave}
 use Rattle.lawful.proofs.Made.{Frame, made-ready}
-use Rattle.scheduler.specs.Wake.{Waiting}
+use Rattle.scheduler.specs.Wake.{Waiting, Watched, wokenIn}
 
 -- f makes a task of the queue q ready or leaves all as it is, and getting ready does not touch the queue
 pub record Wakes (f : ℕ → State → State) (q : ℕ) : Type 0 where
@@ -34,7 +34,7 @@ either-of : (b : Bool) (x y : State) → ((if b then x else y) ≡ x) ⊎ ((if b
 either-of true x y = inl refl
 either-of false x y = inr refl
 
-pub wakes-events : Wakes woken eventQueue
+wakes-events : Wakes woken eventQueue
 unfolding woken
 wakes-events =
     record {
@@ -43,7 +43,7 @@ wakes-events =
       stays = λ s s′ k f. f .event;
     }
 
-pub wakes-time : Wakes timely timeQueue
+wakes-time : Wakes timely timeQueue
 unfolding timely
 wakes-time =
     record {
@@ -51,6 +51,22 @@ wakes-time =
       either = λ k s. either-of (leb (taskAt s k .time) (s .clock)) (madeReady (leaving s timeQueue k) k) s;
       stays = λ s s′ k f. f .time;
     }
+
+-- of either queue
+pub watched-low : {q : ℕ} → Watched q → q < 9
+watched-low {q} w = ⊎-elim (λ z. omega (arith, z .1)) (λ z. omega (arith, w .either (z .1))) (tested q eventQueue)
+
+pub wakes-in : (q : ℕ) → Watched q → Wakes (wokenIn q) q
+unfolding wokenIn
+wakes-in q w = ⊎-elim (λ z. rw (z .1) wakes-events) (λ z. rw (w .either (z .1)) wakes-time) (tested q eventQueue)
+
+pub in-events : (l : List ℕ) (s : State) → each (wokenIn eventQueue) l s ≡ each woken l s
+unfolding wokenIn
+in-events l s = refl
+
+pub in-time : (l : List ℕ) (s : State) → each (wokenIn timeQueue) l s ≡ each timely l s
+unfolding wokenIn
+in-time l s = refl
 
 -- ---- Lists.
 

@@ -7,7 +7,7 @@ ghost use Rattle.tables.specs.Held.{Shows};
 ghost use Rattle.meaning.specs.Ready.{madeReady};
 ghost use Rattle.meaning.specs.Services.{woken, timely};
 ghost use Rattle.lawful.specs.Shape.{Shape};
-ghost use Rattle.scheduler.specs.Wake.{Waiting};
+ghost use Rattle.scheduler.specs.Wake.{Waiting, Watched, wokenIn};
 use crate::blocks;
 use crate::conditions;
 use crate::ready;
@@ -22,44 +22,46 @@ pub fn wake(t: Tables, q: u8, k: u8) -> Tables
     ready::make_ready(u, k)
 }
 
-// The event waiter k is made ready if its condition holds.
-fn wake_by_events(t: Tables, k: u8) -> Tables
-    requires { ⌜ Waiting t eventQueue k ⌝ }
-    ensures { λ r. ⌜ Shows r (woken k (read t)) ⌝ }
+// The task k, which waits in the queue q, is made ready if what it waits for has come: in the event queue its condition, in the time queue its time.
+fn wake_if_due(t: Tables, q: u8, k: u8) -> Tables
+    requires { ⌜ Waiting t q k × Watched q ⌝ }
+    ensures { λ r. ⌜ Shows r (wokenIn q k (read t)) ⌝ }
 {
     let x = t.tasks[k as usize];
-    if conditions::enough_on(t.on, x.count, x.events) {
-        return wake(t, 0, k);
+    if q == 0 {
+        if conditions::enough_on(t.on, x.count, x.events) {
+            return wake(t, q, k);
+        }
+        return t;
     }
-    t
-}
-
-// The time waiter k is made ready if its time has come.
-fn wake_by_time(t: Tables, k: u8) -> Tables
-    requires { ⌜ Waiting t timeQueue k ⌝ }
-    ensures { λ r. ⌜ Shows r (timely k (read t)) ⌝ }
-{
-    let x = t.tasks[k as usize];
     if x.time <= t.clock {
-        return wake(t, 7, k);
+        return wake(t, q, k);
     }
     t
 }
 
-// The event queue is walked front to back, and each task whose condition holds is made ready.
+// The event queue or the time queue is walked front to back, and each task that is due is made ready.
+fn wake_all(t: Tables, q: u8) -> Tables
+    requires { ⌜ Sound (t .threads) × Shape (read t) [] 0 × Watched q ⌝ }
+    ensures { λ r. ⌜ Shows r (each (wokenIn q) (queue (read t) q) (read t)) ⌝ }
+{
+    let mut u = t;
+    let mut k = blocks::first_of(u, q);
+    while k != 0 {
+        let h = u.threads;
+        let next = h.fwd[k as usize];
+        u = wake_if_due(u, q, k);
+        k = next;
+    }
+    u
+}
+
+// Each task of the event queue whose condition holds is made ready, front to back.
 pub fn wake_events(t: Tables) -> Tables
     requires { ⌜ Sound (t .threads) × Shape (read t) [] 0 ⌝ }
     ensures { λ r. ⌜ Shows r (each woken (queue (read t) eventQueue) (read t)) ⌝ }
 {
-    let mut u = t;
-    let mut k = blocks::first_of(u, 0);
-    while k != 0 {
-        let h = u.threads;
-        let next = h.fwd[k as usize];
-        u = wake_by_events(u, k);
-        k = next;
-    }
-    u
+    wake_all(t, 0)
 }
 
 // Every task on the time queue whose time is at most the clock is made ready, in queue order.
@@ -67,13 +69,5 @@ pub fn wake_time(t: Tables) -> Tables
     requires { ⌜ Sound (t .threads) × Shape (read t) [] 0 ⌝ }
     ensures { λ r. ⌜ Shows r (each timely (queue (read t) timeQueue) (read t)) ⌝ }
 {
-    let mut u = t;
-    let mut k = blocks::first_of(u, 7);
-    while k != 0 {
-        let h = u.threads;
-        let later = h.fwd[k as usize];
-        u = wake_by_time(u, k);
-        k = later;
-    }
-    u
+    wake_all(t, 7)
 }
