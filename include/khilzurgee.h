@@ -245,10 +245,11 @@ struct khilzurgee_line khilzurgee_load(struct khilzurgee_tables *tables,
 
    It reads none but these, writes the tables alone, keeps nothing, takes no
    memory but its stack and always returns. Of the stack it was measured to take
-   up to 170 KiB, where a program check aborts 24 tasks, each linked to by the
-   one before; a load takes 5 KiB. Several threads can call it at once on tables
-   of their own; one set of tables is for one thread at a time. The answer and
-   the tables are proved, for any tables, any bytes and any length. */
+   up to 170 KiB (by bench/stack), where a program check aborts 24 tasks, each
+   linked to by the one before; a load takes 2 KiB. Several threads can call it
+   at once on tables of their own; one set of tables is for one thread at a time.
+   The answer and the tables are proved, for any tables, any bytes and any
+   length. */
 struct khilzurgee_line khilzurgee_advance(struct khilzurgee_tables *tables,
                                           const uint8_t *call, size_t length);
 

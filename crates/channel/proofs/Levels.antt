@@ -13,7 +13,7 @@ use Rattle.tables.specs.declared.Tables.{Tables}
 use Rattle.tables.specs.State.{State, read, channelQueue, node, requestAt, queue, levelOf}
 use Rattle.tables.specs.Held.{Held}
 use Rattle.meaning.specs.Channel.{channelLevel}
-use Rattle.scheduler.proofs.Times.{placed-same}
+use Rattle.blocks.proofs.Placed.{placed-same}
 use Rattle.channel.specs.Queue.{Levels}
 use Rattle.channel.proofs.Started.{queued-request}
 

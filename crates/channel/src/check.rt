@@ -6,8 +6,8 @@ ghost use Rattle.tables.specs.Blocks.{awaitingRequest};
 ghost use Rattle.tables.specs.State.{read};
 ghost use Rattle.tables.specs.Held.{Shows};
 ghost use Rattle.meaning.specs.Services.{awaitsRequest, check};
+use blocks::free;
 use calls::Call;
-use scheduler::free;
 use tables::Tables;
 use tables::Task;
 

@@ -10,9 +10,9 @@ ghost use Rattle.meaning.specs.Channel.{requestPlaced};
 ghost use Rattle.meaning.specs.Services.{transferred};
 ghost use Rattle.lawful.specs.Resting.{Lawful};
 use crate::queue;
+use blocks::free;
 use ending::finish;
 use ending::pending;
-use scheduler::free;
 use scheduler::ready;
 use tables::Tables;
 

@@ -3,7 +3,6 @@ ghost use Rattle.tables.specs.State.{read};
 ghost use Rattle.tables.specs.Held.{Held, Shows};
 ghost use Rattle.meaning.specs.Channel.{queued, started};
 ghost use Rattle.channel.specs.Queue.{Owned, Levels, Entering};
-use scheduler::blocks;
 use tables::Tables;
 
 // The level of each request block's owner, at the request block's number in a queue.

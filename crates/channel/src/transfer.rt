@@ -7,9 +7,9 @@ ghost use Rattle.meaning.specs.Given.{Gives};
 ghost use Rattle.meaning.specs.Services.{asked, transfer};
 ghost use Rattle.channel.specs.Transfer.{Transferring};
 use crate::queue;
+use blocks::free;
 use calls::Call;
 use meaning::Given;
-use scheduler::free;
 use tables::Request;
 use tables::Tables;
 

@@ -16,7 +16,7 @@ use Rattle.threads.proofs.Read.{first-of}
 use Rattle.threads.proofs.Lists.{count-append}
 use Rattle.threads.proofs.Walk.{opened, closed, at-next, at-split, at-member, at-less}
 use Rattle.words.specs.Words.{upBy}
-use Rattle.rules.proofs.Tests.{and-assoc, and-right}
+use Rattle.pointers.proofs.Tests.{and-assoc, and-right}
 use Rattle.rules.proofs.Places.{tasks-of, requests-of, owner-low, module-low}
 use Rattle.rules.specs.Orderly.{Orderly}
 use Rattle.tables.specs.declared.Tables.{Tables}

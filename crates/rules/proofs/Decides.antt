@@ -2,14 +2,13 @@
 use mathlib.Core.Bool.{Bool, true, false, _&&_, true≢false}
 use mathlib.Core.Path.{_≡_, refl, sym, _∙_}
 use mathlib.Core.List.{List, _∷_}
-use Rattle.words.specs.Words.{upBy, each-holds}
+use Rattle.words.specs.Words.{each-holds}
 use Rattle.threads.specs.Threads.{Sound}
 use Rattle.tables.specs.declared.Tables.{Tables}
-use Rattle.tables.specs.State.{State, taskAt, queue, timeQueue, channelQueue, read}
-use Rattle.meaning.specs.Channel.{channelLevel}
+use Rattle.tables.specs.State.{State, read}
 use Rattle.meaning.specs.Rules.{pointersSound, coreHeld, chainsEnd, busy, coreWaits, queuesInOrder, linked, channelBusy, stateRules, rulesHold}
-use Rattle.rules.specs.Blocks.{firstPass, secondPass}
-use Rattle.rules.specs.Orderly.{Orderly}
+use Rattle.fields.specs.Blocks.{firstPass}
+use Rattle.rules.specs.Orderly.{Orderly, secondPass}
 use Rattle.lawful.proofs.Truth.{both}
 use Rattle.rules.proofs.Waiters.{waiters, events-wait, events-pass, their-level}
 use Rattle.rules.proofs.Deciding.{Passed, passed, passes-first}
@@ -18,22 +17,19 @@ one : (b : Bool) (l : List Bool) → each-holds (b ∷ l) ≡ true → (b ≡ tr
 unfolding each-holds
 one b l e = both b (each-holds l) e
 
-seven : (a b c d e f g : Bool) → (a && b && c && d && e && f && g) ≡ (a && (b && (c && (d && (e && (f && (g && true)))))))
-seven false b c d e f g = refl
-seven true false c d e f g = refl
-seven true true false d e f g = refl
-seven true true true false e f g = refl
-seven true true true true false f g = refl
-seven true true true true true false g = refl
-seven true true true true true true false = refl
-seven true true true true true true true = refl
-
--- the second pass is its seven rules
-pub second-whole : (s : State) {a b c d e f g h : Bool} → a ≡ coreHeld s → b ≡ chainsEnd s → c ≡ busy s → d ≡ coreWaits s
-    → e ≡ upBy (λ k. taskAt s k .time) (queue s timeQueue) → f ≡ upBy (channelLevel s) (queue s channelQueue) → g ≡ linked s → h ≡ channelBusy s
-    → (a && b && c && d && (e && f) && g && h) ≡ secondPass s
-unfolding secondPass queuesInOrder
-second-whole s i j k l m n o p = rw (i, j, k, l, m, n, o, p)
+-- the second pass's rules, in document 01's order
+in-order : (a b c d e f g : Bool) → ((a && b && f) && (c && d && e && g)) ≡ (a && (b && (c && (d && (e && (f && (g && true)))))))
+in-order false b c d e f g = refl
+in-order true false c d e f g = refl
+in-order true true false d e false g = refl
+in-order true true true false e false g = refl
+in-order true true true true false false g = refl
+in-order true true true true true false g = refl
+in-order true true false d e true g = refl
+in-order true true true false e true g = refl
+in-order true true true true false true g = refl
+in-order true true true true true true false = refl
+in-order true true true true true true true = refl
 
 module _ (t : Tables) (sound : Sound (t .threads)) where
   abbrev s : State
@@ -120,7 +116,7 @@ module _ (t : Tables) (sound : Sound (t .threads)) where
         p .checks,
         p .endings,
       )
-      (seven (coreHeld s) (chainsEnd s) (busy s) (coreWaits s) (queuesInOrder s) (linked s) (channelBusy s))
+      (in-order (coreHeld s) (chainsEnd s) (busy s) (coreWaits s) (queuesInOrder s) (linked s) (channelBusy s))
 
 pub unsound : (t : Tables) → false ≡ pointersSound (t .threads) → false ≡ rulesHold t
 unfolding rulesHold

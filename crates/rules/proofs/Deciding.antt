@@ -1,9 +1,13 @@
 -- The first pass decides the rules over blocks: where it passes, each of them holds, and where all rules hold, it passes.
 use mathlib.Core.Bool.{Bool, true, not, _&&_, _||_}
-use mathlib.Core.Path.{_≡_, sym, _∙_}
+use mathlib.Core.Path.{_≡_, sym, ap, _∙_}
+use mathlib.Core.Logic.{⊎-elim}
 use Prim.Native.Nat.{ℕ, _≤_, _^_}
+use native.Mathlib.Omega.{arith}
 use lib.Bits.{bitAnd}
 use lib.Dec.{eqb, leb, ltb}
+use borrow.Author.Tests.{leb-true, le-leb}
+use Rattle.threads.proofs.Lists.{tested}
 use Rattle.words.specs.Words.{_implies_, oneTo, allOf, someOf, has}
 use Rattle.tables.specs.Blocks.{Free, InCore, InEvent, InTime, InCheck, Ending}
 use Rattle.tables.specs.State.{State, taskAt, requestAt, poolAt, unitsOf}
@@ -12,9 +16,10 @@ use Rattle.meaning.specs.Ready.{needsCore}
 use Rattle.meaning.specs.Finish.{pendingOf, pending}
 use Rattle.meaning.specs.Rules as rules
 use Rattle.meaning.specs.Rules.{directoryPasses, inRange, onDefined, tasksInPlace, requestsInPlace, freeSets, clear, blankTask, blankRequest, coreNeeded, owned, checksPending, endingPending}
-use Rattle.rules.specs.Blocks.{waiterRight, pends, taskPasses, requestPasses, firstPass}
-use Rattle.lawful.proofs.Truth.{and-of, both}
-use Rattle.rules.proofs.Parts.{Each, every, shown, taskRange, requestRange, taskStands, requestStands, taskFree, requestFree, taskClear, requestClear, ranges, in-range, tasks-stand, tasks-in-place, requests-stand, requests-in-place, free-sets, free-sets-hold, clears, all-clear}
+use Rattle.fields.specs.Blocks.{waiterRight, pends, usedBy, taskPasses, requestPasses, firstPass}
+use Rattle.lawful.proofs.Truth.{and-of, both, same-bool}
+use Rattle.lawful.proofs.Blanks.{task-blank}
+use Rattle.fields.proofs.Parts.{Each, every, shown, taskRange, requestRange, taskStands, requestStands, taskFree, requestFree, taskClear, requestClear, ranges, in-range, tasks-stand, tasks-in-place, requests-stand, requests-in-place, free-sets, free-sets-hold, clears, all-clear}
 use Rattle.rules.proofs.Waiters.{twice, waiters}
 
 -- ---- one block
@@ -36,7 +41,11 @@ module _ (s : State) (k : ℕ) where
   ends = eqb (taskAt s k .place) Ending implies someOf (λ r. pends k (requestAt s r)) (oneTo 16)
 
   abbrev pub used : Bool
-  used = not (eqb (requestAt s k .place) Free) implies not (eqb (taskAt s (requestAt s k .owner) .place) Free)
+  used = not (eqb (requestAt s k .place) Free) implies usedBy (s .idle) (requestAt s k .owner)
+
+  -- "a used request's owner is a used task", by the owner's place
+  abbrev pub owns : Bool
+  owns = not (eqb (requestAt s k .place) Free) implies not (eqb (taskAt s (requestAt s k .owner) .place) Free)
 
   pub record TaskPasses : Type 0 where
     pub range : taskRange s k ≡ true
@@ -89,6 +98,22 @@ module _ (s : State) (k : ℕ) where
   request-whole p =
       and-of _ _ (and-of _ _ (and-of _ _ (and-of _ _ (p .range) (p .clear)) (p .stands)) (p .free)) (p .owner)
 
+-- ---- the owner of a request: its place says that it is used where the free set does
+
+module _ (s : State) (free : Each (taskFree s) 24) (zero : blankTask (taskAt s 0) ≡ true) where
+  used-place : (n : ℕ) → n ≤ 24 → usedBy (s .idle) n ≡ not (eqb (taskAt s n .place) Free)
+  used-place n h =
+      ⊎-elim (λ e. rw (e .1, task-blank (taskAt s 0) zero))
+      (λ e. let l : 1 ≤ n = omega (arith, e .1) in
+      rw (le-leb n 24 h, le-leb 1 n l) (ap not (same-bool (has (s .idle) n) (eqb (taskAt s n .place) Free) (free .at n l h))))
+      (tested n 0)
+
+  used-owner : (r : ℕ) → requestRange s r ≡ true → used s r ≡ owns s r
+  used-owner r e =
+      let q = requestAt s r in
+      let low = both (leb (q .place) 3) (leb (q .owner) 24) (both (leb (q .place) 3 && leb (q .owner) 24) _ e .0) .1 in
+      ap (λ (b : Bool). not (eqb (q .place) Free) implies b) (used-place (q .owner) (leb-true (q .owner) 24 low))
+
 -- ---- the whole pass
 
 pub record Passed (s : State) : Type 0 where
@@ -114,13 +139,13 @@ module _ (s : State) where
   unfolding coreNeeded needsCore
   needed e = every (needs s) 24 e
 
-  owners-used : Each (used s) 16 → owned s ≡ true
+  owners-used : Each (owns s) 16 → owned s ≡ true
   unfolding owned
-  owners-used e = shown (used s) 16 e
+  owners-used e = shown (owns s) 16 e
 
-  used-owners : owned s ≡ true → Each (used s) 16
+  used-owners : owned s ≡ true → Each (owns s) 16
   unfolding owned
-  used-owners e = every (used s) 16 e
+  used-owners e = every (owns s) 16 e
 
   checks-hold : Each (checks s) 24 → checksPending s ≡ true
   unfolding checksPending pendingOf
@@ -209,7 +234,8 @@ module _ (s : State) where
             });
         core = core-needed (record { at = λ k l h. t k l h .core });
         waiters = record { at = λ k l h. t k l h .waiter };
-        owners = owners-used (record { at = λ k l h. r k l h .owner });
+        owners =
+            owners-used (record { at = λ k l h. sym (used-owner s (record { at = λ k l h. t k l h .free }) (zero .0) k (r k l h .range)) ∙ r k l h .owner });
         checks = checks-hold (record { at = λ k l h. t k l h .check });
         endings = endings-hold (record { at = λ k l h. t k l h .ending });
       }
@@ -244,7 +270,7 @@ module _ (s : State) where
               clear = c .requests .at k l h;
               stands = requests-stand s (p .requests) .at k l h;
               free = b .requests .at k l h;
-              owner = used-owners (p .owners) .at k l h;
+              owner = used-owner s (b .tasks) (c .task) k (a .requests .at k l h) ∙ used-owners (p .owners) .at k l h;
             });
       } in
       and-of _ _

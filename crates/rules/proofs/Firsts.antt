@@ -67,21 +67,24 @@ module _ (t : Tables) (o : Orderly t) where
   waiter-low level h =
       omega (arith, first-of (t .threads) (o .sound) (level + 3) (omega arith), first-low (level + 3) (queue s (level + 3)) (omega arith) refl)
 
-  turn : (level k : ℕ) (b : Bool) (l : List ℕ) → 1 ≤ level → level ≤ 3 → queue s (level + 3) ≡ l → k ≡ hd l
-      → b ≡ ltb (startOf (poolAt s level) (unitsOf s k)) 64 → (eqb k 0 || not b) ≡ (not (isEmpty l) implies not (fits s (hd l)))
+  -- the test of the code, of who waits first
+  abbrev waits : ℕ → ℕ → Bool
+  waits level k = eqb k 0 || not (ltb (startOf (poolAt s level) (unitsOf s k)) 64)
+
+  turn : (level k : ℕ) (l : List ℕ) → 1 ≤ level → level ≤ 3 → queue s (level + 3) ≡ l → k ≡ hd l
+      → waits level k ≡ (not (isEmpty l) implies not (fits s (hd l)))
   unfolding fits startFor
-  turn level k b [] l h e f g = rw (eq-eqb k 0 f)
-  turn level k b (a ∷ m) l h e f g =
+  turn level k [] l h e f = rw (eq-eqb k 0 f)
+  turn level k (a ∷ m) l h e f =
       let c : 1 ≤ count a (queue s (level + 3)) = omega (arith, ap (count a) e, count-hit a a m refl) in
       let i = in-queue t o (level + 3) a (omega arith) c in
       let n = tasks-of t o (level + 3) a (omega arith) c in
       let z : levelOf s a ≡ level = of-core t o level l h a (n .1) (stands t o a (n .0) (n .1)) (i .0) in
-      rw (ne-eqb k 0 (omega (arith, n .0)), z, ← f) (ap not g)
+      rw (ne-eqb k 0 (omega (arith, n .0)), z, ← f)
 
-  pub first-turn : {level k : ℕ} {b : Bool} → 1 ≤ level → level ≤ 3 → k ≡ first (level + 3)
-      → b ≡ ltb (startOf (poolAt s level) (unitsOf s k)) 64 → (eqb k 0 || not b) ≡ firstWaits s level
+  pub first-turn : {level k : ℕ} {b : Bool} → 1 ≤ level → level ≤ 3 → k ≡ first (level + 3) → b ≡ waits level k → b ≡ firstWaits s level
   first-turn {level} {k} {b} l h f g =
-      turn level k b (queue s (level + 3)) l h refl (f ∙ first-of (t .threads) (o .sound) (level + 3) (omega arith)) g
+      g ∙ turn level k (queue s (level + 3)) l h refl (f ∙ first-of (t .threads) (o .sound) (level + 3) (omega arith))
 
   pub waiter-module : (level : ℕ) → level ≤ 3 → taskAt s (first (level + 3)) .program < 32
   waiter-module level h = module-low t o (first (level + 3)) (waiter-low level h)

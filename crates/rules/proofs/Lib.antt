@@ -1,14 +1,4 @@
-pub mod Tests
-pub mod Passes
-pub mod Found
-pub mod Goes
-pub mod Decided
-pub mod Marks
-pub mod Owners
-pub mod Slots
-pub mod Gathered
 pub mod Modules
-pub mod Parts
 pub mod Places
 pub mod Waiters
 pub mod Climbing
@@ -16,7 +6,9 @@ pub mod Firsts
 pub mod Fitting
 pub mod Tally
 pub mod Chains
+pub mod Children
 pub mod Runs
+pub mod Seen
 pub mod Deciding
 pub mod Decides
 pub mod Unique

@@ -16,11 +16,11 @@ use Rattle.tables.specs.State.{State, node, taskAt, requestAt, queue, levelOf, 
 use Rattle.meaning.specs.Rules.{queueFor, blankTask, clear}
 use Rattle.rules.specs.Orderly.{Orderly}
 use Rattle.lawful.proofs.Truth.{both}
-use Rattle.rules.proofs.Parts.{ranges, clears, tasks-stand, requests-stand}
+use Rattle.fields.proofs.Parts.{ranges, clears, tasks-stand, requests-stand}
 use Rattle.words.proofs.Places.{under-or-from}
 use Rattle.lawful.proofs.Directory.{passing}
 use Rattle.rules.proofs.Modules.{some-module}
-use Rattle.rules.proofs.Marks.{standing-in}
+use Rattle.pointers.proofs.Marks.{standing-in}
 
 -- what an implication that holds gives
 pub given : (a b : Bool) → (a implies b) ≡ true → a ≡ true → b ≡ true
@@ -105,8 +105,11 @@ module _ (t : Tables) (o : Orderly t) where
       (λ e. fields (suc k) (omega arith) h .1 (e .0))
       (tested (taskAt s (suc k) .place) 0)
 
+  pub none-above : taskAt s 0 .parent ≡ 0
+  none-above = blank-fields (taskAt s 0) (clears s (o .clear) .task) .1
+
   pub parent-low : (k : ℕ) → k ≤ 24 → taskAt s k .parent ≤ 24
-  parent-low zero h = omega (arith, blank-fields (taskAt s 0) (clears s (o .clear) .task) .1)
+  parent-low zero h = omega (arith, none-above)
   parent-low (suc k) h = fields (suc k) (omega arith) h .0
 
   pub module-low : (k : ℕ) → k ≤ 24 → taskAt s k .program < 32

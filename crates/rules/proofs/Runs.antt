@@ -7,27 +7,25 @@ use Prim.Native.Nat.{ℕ, _+_, _≤_, _<_}
 use native.Mathlib.Omega.{arith}
 use lib.Bits.{bitAnd, bitOr}
 use lib.Dec.{eqb, leb}
-use lib.ListN.{length, set, getD, replicate, length-set, getD-replicate}
+use lib.ListN.{set, getD, replicate, length-set, getD-replicate}
 use lib.Seq.{getD-set-same, getD-set-other}
 use borrow.Author.Tests.{eq-eqb, ne-eqb, le-ltb}
 use Rattle.threads.proofs.Lists.{tested}
-use Rattle.words.specs.Words.{if_then_else_, below, oneTo, allOf, howMany, has}
+use Rattle.words.specs.Words.{below, oneTo, allOf, has}
 use Rattle.words.proofs.Masks.{has-run}
+use Rattle.words.proofs.Members.{has-above}
+use Rattle.words.proofs.Lists.{all-at, all-shown}
+use Rattle.words.proofs.Places.{under-or-from}
 use Rattle.pools.specs.Pools.{run}
 use Rattle.tables.specs.declared.Tables.{Tables}
 use Rattle.tables.specs.State.{State, taskAt, poolAt, levelOf, unitsOf, read}
 use Rattle.meaning.specs.Rules.{holdsUnit, coreHeld}
 use Rattle.rules.specs.Orderly.{Orderly}
-use Rattle.rules.specs.Links.{Tally, Exact}
-use Rattle.rules.proofs.Tests.{fails-right}
+use Rattle.rules.specs.Links.{Tally, Exact, Counted}
+use Rattle.pointers.proofs.Tests.{fails-right}
 use Rattle.rules.proofs.Firsts.{three}
 use Rattle.rules.proofs.Places.{run-fits, level-fits}
-use Rattle.rules.proofs.Tally.{tally-start, tally-next, tally-past, tally-end}
-
-pub record Counted (s : State) (k : ℕ) (one two : List ℕ) : Type 0 where
-  pub ones : length one ≡ 4
-  pub twos : length two ≡ 4
-  pub tally : (level : ℕ) → level < 4 → Tally (holdsUnit s level) k (getD one level 0) (getD two level 0)
+use Rattle.rules.proofs.Tally.{met, met-none, tally-start, tally-next, tally-past, tally-end}
 
 none : (level : ℕ) → level < 4 → _≡_ {A = ℕ} (getD (replicate 4 0) level 0) 0
 none level h = getD-replicate 4 level 0 0 h
@@ -93,12 +91,26 @@ module _ (t : Tables) (o : Orderly t) where
       ∙ fails-right (leb (taskAt s k .start) u) _ (le-ltb u (taskAt s k .start + unitsOf s k) (omega (arith, run-fits t o k a b (z .1))))))
       (λ z. rw (z .0)) (tested (taskAt s k .core) 1)
 
+  -- each unit of a level is met as its pool wants it
+  abbrev heldAt : ℕ → ℕ → Bool
+  heldAt level = met (holdsUnit s level) 24 (poolAt s level)
+
+  level-end : {one two : ℕ} {r : Bool} (level : ℕ) → Tally (holdsUnit s level) 24 one two → Exact one two (poolAt s level) r
+      → r ≡ allOf (heldAt level) (below 64)
+  level-end level n x =
+      x .right
+      ∙ tally-end (poolAt s level) n
+      (λ e u.
+      ⊎-elim (λ l. all-at (heldAt level) 64 u e l)
+      (λ l. met-none (holdsUnit s level) 24 (poolAt s level) u (high level u l) (has-above 64 (poolAt s level) u (x .low) l)) (under-or-from u 64))
+      (λ f. all-shown (heldAt level) 64 (λ u l. f u))
+
   pub counted-end : {one two : List ℕ} {a b c : Bool} → Counted s 24 one two → Exact (getD one 1 0) (getD two 1 0) (poolAt s 1) a
       → Exact (getD one 2 0) (getD two 2 0) (poolAt s 2) b → Exact (getD one 3 0) (getD two 3 0) (poolAt s 3) c → (a && b && c) ≡ coreHeld s
   unfolding coreHeld allOf oneTo
-  counted-end {one} {two} n x y z =
-      let p : ℕ → Bool =
-      λ level. allOf (λ u. eqb (howMany (holdsUnit s level u) (oneTo 24)) (if has (poolAt s level) u then 1 else 0)) (below 64) in
-      let e : (r : Bool) (level : ℕ) → level < 4 → Exact (getD one level 0) (getD two level 0) (poolAt s level) r → r ≡ p level =
-      λ r level h x. x .right ∙ tally-end (poolAt s level) (n .tally level h) (x .low) (high level) in
-      ap₂ (λ (a b : Bool). a && b) (ap₂ (λ (a b : Bool). a && b) (e _ 1 (omega arith) x) (e _ 2 (omega arith) y)) (e _ 3 (omega arith) z) ∙ three (p 1) (p 2) (p 3)
+  counted-end n x y z =
+      let p : ℕ → Bool = λ level. allOf (heldAt level) (below 64) in
+      ap₂ (λ (a b : Bool). a && b)
+      (ap₂ (λ (a b : Bool). a && b) (level-end 1 (n .tally 1 (omega arith)) x) (level-end 2 (n .tally 2 (omega arith)) y))
+      (level-end 3 (n .tally 3 (omega arith)) z)
+      ∙ three (p 1) (p 2) (p 3)

@@ -1,21 +1,18 @@
 -- Counting into two sets: `one` has what was met at least once, `two` what was met at least twice. So children are counted, and core units.
-use mathlib.Core.Bool.{Bool, true, false, not, _&&_, _||_, Bool·beq, true≢false}
+use mathlib.Core.Bool.{Bool, true, false, not, _&&_, _||_, Bool·beq}
 use mathlib.Core.Path.{_≡_, refl, sym, ap, ap₂, _∙_}
-use mathlib.Core.Logic.{⊎-elim}
 use mathlib.Core.List.{List, [], _∷_, _++_}
-use Prim.Native.Nat.{ℕ, zero, suc, _+_, _≤_, _<_, _^_}
+use Prim.Native.Nat.{ℕ, zero, suc, _+_, _/_, _≤_}
 use native.Mathlib.Numerals.{add-one}
 use native.Mathlib.Omega.{arith}
 use lib.Bits.{bitAnd, bitOr}
 use lib.Dec.{eqb, leb}
-use borrow.Author.Tests.{eq-eqb, ne-eqb, eqb-true, le-leb}
-use Rattle.words.specs.Words.{if_then_else_, below, oneTo, allOf, howMany, has}
-use Rattle.words.proofs.Members.{has-none, has-meet, has-union, has-above}
+use borrow.Author.Tests.{eq-eqb, ne-eqb, eqb-true, le-leb, not-true}
+use Rattle.words.specs.Words.{if_then_else_, oneTo, howMany, has}
+use Rattle.words.proofs.Members.{has-none, has-next, has-meet, has-union}
 use Rattle.words.proofs.Subsets.{same-members}
-use Rattle.words.proofs.Lists.{all-at, all-shown}
-use Rattle.words.proofs.Places.{under-or-from}
-use Rattle.lawful.proofs.Truth.{and-of, both}
-use Rattle.rules.proofs.Tests.{same-test, fails-right}
+use Rattle.lawful.proofs.Truth.{and-of, both, same-bool, of-same}
+use Rattle.pointers.proofs.Tests.{same-test, fails-right}
 use Rattle.rules.specs.Links.{Tally}
 
 -- ---- how many
@@ -94,54 +91,38 @@ module _ {p : ℕ → ℕ → Bool} where
         let same : (u : ℕ) → howMany (p u) (oneTo (k + 1)) ≡ howMany (p u) (oneTo k) = λ u. many-next (p u) k ∙ rw (e u) (omega arith) in
         record { once = λ u. t .once u ∙ ap (leb 1) (sym (same u)); twice = λ u. t .twice u ∙ ap (leb 2) (sym (same u)) }
 
-pub tally-exactly : {p : ℕ → ℕ → Bool} {n one two : ℕ} → Tally p n one two → (u : ℕ) (b : Bool)
-    → (Bool·beq (has one u) b && not (has two u)) ≡ eqb (howMany (p u) (oneTo n)) (if b then 1 else 0)
-tally-exactly {p} {n} t u b = rw (t .once u, t .twice u) (exactly (howMany (p u) (oneTo n)) b)
+-- each u exactly once where `wanted` has it, and else not at all: the sets are `wanted` and nothing
+abbrev pub met : (ℕ → ℕ → Bool) → ℕ → ℕ → ℕ → Bool
+met p n wanted u = eqb (howMany (p u) (oneTo n)) (if has wanted u then 1 else 0)
 
--- each unit exactly once where `granted` has it, and else not at all: the sets are `granted` and nothing
-module _ {p : ℕ → ℕ → Bool} {n one two : ℕ} (granted : ℕ) (t : Tally p n one two) (low : granted < 2 ^ 64)
-    (high : (u : ℕ) → 64 ≤ u → (k : ℕ) → 1 ≤ k → k ≤ n → p u k ≡ false) where
-  abbrev exact : ℕ → Bool
-  exact u = eqb (howMany (p u) (oneTo n)) (if has granted u then 1 else 0)
+module _ {p : ℕ → ℕ → Bool} {n one two : ℕ} (wanted : ℕ) (t : Tally p n one two) where
+  told : (u : ℕ) → (Bool·beq (has one u) (has wanted u) && not (has two u)) ≡ met p n wanted u
+  told u = rw (t .once u, t .twice u) (exactly (howMany (p u) (oneTo n)) (has wanted u))
 
-  told : (u : ℕ) → (Bool·beq (has one u) (has granted u) && not (has two u)) ≡ exact u
-  told u = tally-exactly t u (has granted u)
+  apart : (u : ℕ) → met p n wanted u ≡ true → (has one u ≡ has wanted u) × (has two u ≡ has 0 u)
+  apart u e =
+      let b = both (Bool·beq (has one u) (has wanted u)) (not (has two u)) (told u ∙ e) in
+      (same-bool _ _ (b .0), not-true _ (b .1) ∙ sym (has-none u))
 
-  high-one : (u : ℕ) → 64 ≤ u → (has one u ≡ false) × (has two u ≡ false)
-  high-one u h =
-      let z = many-none (p u) n (high u h) in
-      (t .once u ∙ ap (leb 1) z, t .twice u ∙ ap (leb 2) z)
-
-  same-bool : (a b : Bool) → Bool·beq a b ≡ true → a ≡ b
-  same-bool true true e = refl
-  same-bool true false e = absurd (true≢false (sym e))
-  same-bool false true e = absurd (true≢false (sym e))
-  same-bool false false e = refl
-
-  not-true : (a : Bool) → not a ≡ true → a ≡ false
-  not-true true e = absurd (true≢false (sym e))
-  not-true false e = refl
-
-  beq-same : (a : Bool) → Bool·beq a a ≡ true
-  beq-same true = refl
-  beq-same false = refl
-
-  apart : allOf exact (below 64) ≡ true → (u : ℕ) → (has one u ≡ has granted u) × (has two u ≡ has 0 u)
-  apart e u =
-      ⊎-elim
-      (λ l.
-      let b = both (Bool·beq (has one u) (has granted u)) (not (has two u)) (told u ∙ all-at exact 64 u e l) in
-      (same-bool _ _ (b .0), not-true _ (b .1) ∙ sym (has-none u)))
-      (λ l. (high-one u l .0 ∙ sym (has-above 64 granted u low l), high-one u l .1 ∙ sym (has-none u))) (under-or-from u 64)
-
-  pub tally-end : (eqb two 0 && eqb one granted) ≡ allOf exact (below 64)
-  tally-end =
-      same-test (eqb two 0 && eqb one granted) (allOf exact (below 64))
+  -- so a test that holds exactly where each u is met as wanted is that of the sets
+  pub tally-end : {r : Bool} → (r ≡ true → (u : ℕ) → met p n wanted u ≡ true) → (((u : ℕ) → met p n wanted u ≡ true) → r ≡ true)
+      → (eqb two 0 && eqb one wanted) ≡ r
+  tally-end {r} f g =
+      same-test (eqb two 0 && eqb one wanted) r
       (λ e.
-      let b = both (eqb two 0) (eqb one granted) e in
+      let b = both (eqb two 0) (eqb one wanted) e in
       let x : two ≡ 0 = eqb-true two 0 (b .0) in
-      let y : one ≡ granted = eqb-true one granted (b .1) in
-      all-shown exact 64 (λ u l. sym (told u) ∙ rw (x, y, has-none u) (and-of _ _ (beq-same (has granted u)) refl)))
+      let y : one ≡ wanted = eqb-true one wanted (b .1) in
+      g (λ u. sym (told u) ∙ rw (x, y, has-none u) (and-of _ _ (of-same (has wanted u) (has wanted u) refl) refl)))
       (λ e.
-      and-of _ _ (eq-eqb two 0 (same-members two 0 (λ u. apart e u .1)))
-      (eq-eqb one granted (same-members one granted (λ u. apart e u .0))))
+      and-of _ _ (eq-eqb two 0 (same-members two 0 (λ u. apart u (f e u) .1)))
+      (eq-eqb one wanted (same-members one wanted (λ u. apart u (f e u) .0))))
+
+-- what none has, and none is wanted to have
+pub met-none : (p : ℕ → ℕ → Bool) (n wanted u : ℕ) → ((k : ℕ) → 1 ≤ k → k ≤ n → p u k ≡ false) → has wanted u ≡ false → met p n wanted u ≡ true
+met-none p n wanted u f e = rw (many-none (p u) n f, e)
+
+-- 0 left out, and each other one less
+pub tally-half : {p : ℕ → ℕ → Bool} {n one two : ℕ} → Tally p n one two → Tally (λ u. p (suc u)) n (one / 2) (two / 2)
+tally-half {p} {n} {one} {two} t =
+    record { once = λ u. sym (has-next one u) ∙ t .once (suc u); twice = λ u. sym (has-next two u) ∙ t .twice (suc u) }

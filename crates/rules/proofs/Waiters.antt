@@ -14,13 +14,13 @@ use Rattle.tables.specs.declared.Tables.{Tables}
 use Rattle.tables.specs.State.{State, taskAt, queue, levelOf, readyQueue, coreQueue, read}
 use Rattle.meaning.specs.Conditions.{undefinedIn, enough}
 use Rattle.meaning.specs.Rules.{eventsWait, eventsPass, ofTheirLevel}
-use Rattle.rules.specs.Blocks.{waiterRight}
+use Rattle.fields.specs.Blocks.{waiterRight}
 use Rattle.rules.specs.Orderly.{Orderly}
 use Rattle.lawful.proofs.Truth.{and-of, both}
 use Rattle.lawful.proofs.Tests.{of-all, all-of}
-use Rattle.rules.proofs.Tests.{all-append}
-use Rattle.rules.proofs.Parts.{Each, shown}
-use Rattle.rules.proofs.Marks.{stands-here}
+use Rattle.pointers.proofs.Tests.{all-append}
+use Rattle.fields.proofs.Parts.{Each, shown}
+use Rattle.pointers.proofs.Marks.{stands-here}
 use Rattle.rules.proofs.Places.{QueueOf, ready, core, event, time, none, given, stands, in-queue, tasks-of, level-fits}
 
 pub twice : (b : Bool) → not (not b) ≡ b

@@ -1,4 +1,2 @@
-pub mod Walked
-pub mod Blocks
 pub mod Orderly
 pub mod Links

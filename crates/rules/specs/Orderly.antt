@@ -1,10 +1,10 @@
 -- What the first pass has shown of tables, and the rules over queues, links and core take for granted.
-use mathlib.Core.Bool.{true}
+use mathlib.Core.Bool.{Bool, true, _&&_}
 use mathlib.Core.Path.{_≡_}
 use Rattle.threads.specs.Threads.{Sound}
 use Rattle.tables.specs.declared.Tables.{Tables}
-use Rattle.tables.specs.State.{read}
-use Rattle.meaning.specs.Rules.{directoryPasses, inRange, tasksInPlace, requestsInPlace, clear}
+use Rattle.tables.specs.State.{State, read}
+use Rattle.meaning.specs.Rules.{directoryPasses, inRange, tasksInPlace, requestsInPlace, clear, coreHeld, chainsEnd, linked, busy, coreWaits, queuesInOrder, channelBusy}
 
 -- the pointers are sound, and the directory, the fields and the places of the blocks keep their rules
 pub record Orderly (t : Tables) : Type 0 where
@@ -14,3 +14,7 @@ pub record Orderly (t : Tables) : Type 0 where
   pub tasks : tasksInPlace (read t) ≡ true
   pub requests : requestsInPlace (read t) ≡ true
   pub clear : clear (read t) ≡ true
+
+-- the rules that go over several blocks
+unfoldable pub secondPass : State → Bool
+secondPass s = (coreHeld s && chainsEnd s && linked s) && (busy s && coreWaits s && queuesInOrder s && channelBusy s)

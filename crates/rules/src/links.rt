@@ -1,133 +1,112 @@
-// The rules over LINK parents and over core, of tables whose fields are right.
+// The rules over LINK parents and over core, of tables whose fields are right: one look at each task block gathers what they ask.
+ghost use mathlib.Core.Bool.{_&&_};
 ghost use mathlib.Core.Path.{_≡_};
+ghost use Prim.Native.Nat.{_<_};
 ghost use Rattle.tables.specs.State.{read};
 ghost use Rattle.meaning.specs.Rules.{linked, chainsEnd, coreHeld};
 ghost use Rattle.rules.specs.Orderly.{Orderly};
-ghost use Rattle.rules.specs.Links.{Tally, Exact, childOf, Low, Above, Further};
+ghost use Rattle.rules.specs.Links.{Exact, Seen, WithChild, alone};
 use tables::Tables;
-use words::sets32;
+use words::sets64;
 
 // The blocks that are a task's parent, and those that are the parent of two.
 pub struct Parents {
-    pub one: u32,
-    pub two: u32,
+    pub one: u64,
+    pub two: u64,
 }
 
-fn counted(t: Tables) -> Parents
-    requires { ⌜ Orderly t ⌝ }
-    ensures { λ r. ⌜ Tally (childOf (read t)) 24 (r .one) (r .two) ⌝ }
+// What one look at each task block tells: the parents, the LINK waiters, whether each chain of parents ends, and level by level the units that a run
+// has and those that two have.
+pub struct Links {
+    pub parents: Parents,
+    pub waits: u64,
+    pub ends: bool,
+    pub held: [u64; 4],
+    pub twice: [u64; 4],
+}
+
+// A task more, of this parent.
+fn with_child(p: Parents, parent: u8) -> Parents
+    requires { ⌜ parent < 64 ⌝ }
+    ensures { λ r. ⌜ WithChild (p .one) (p .two) parent (r .one) (r .two) ⌝ }
 {
-    let mut one: u32 = 0;
-    let mut two: u32 = 0;
-    let mut k: u8 = 0;
-    while k < 24 {
-        k += 1;
-        let x = t.tasks[k as usize];
-        let p = x.parent;
-        let parent = sets32::adding(0, p as u32);
-        two = two | (one & parent);
-        one = one | parent;
+    let it = sets64::adding(0, parent as u32);
+    Parents {
+        one: p.one | it,
+        two: p.two | (p.one & it),
     }
-    Parents { one: one, two: two }
 }
 
-// "a LINK waiter has exactly one child, a parent is in LINK"
-pub fn linked(t: Tables) -> bool
-    requires { ⌜ Orderly t ⌝ }
-    ensures { λ r. ⌜ r ≡ linked (read t) ⌝ }
+// The task k as a set, where it waits in LINK.
+fn waiter(place: u8, k: u8) -> u64
+    requires { ⌜ k < 64 ⌝ }
+    ensures { λ r. ⌜ r ≡ alone place k ⌝ }
 {
-    let parents = counted(t);
-    let one = parents.one;
-    let two = parents.two;
-    let mut right = true;
-    let mut k: u8 = 0;
-    while k < 24 {
-        k += 1;
-        let x = t.tasks[k as usize];
-        right = right & ((((one >> k) % 2 == 1) == (x.place == 6)) & !((two >> k) % 2 == 1));
+    if place == 6 {
+        return sets64::adding(0, k as u32);
     }
-    right
+    0
 }
 
-// Who is one step above each task: its parent, or none.
-fn above(t: Tables) -> [u8; 25]
+// A chain is walked up from its task, until there is none above or 24 steps are done.
+fn seen(t: Tables) -> Links
     requires { ⌜ Orderly t ⌝ }
-    ensures { λ r. ⌜ Above (read t) 1 r ⌝ }
-{
-    let mut up: [u8; 25] = [0; 25];
-    let mut k: u8 = 0;
-    while k < 25 {
-        let x = t.tasks[k as usize];
-        up[k as usize] = x.parent;
-        k += 1;
-    }
-    up
-}
-
-// Who is as far above as `a` says, and from there as far as `b` says.
-fn further(a: [u8; 25], b: [u8; 25]) -> [u8; 25]
-    requires { ⌜ Low a × Low b ⌝ }
-    ensures { λ r. ⌜ Further a b r ⌝ }
-{
-    let mut up: [u8; 25] = [0; 25];
-    let mut k: u8 = 0;
-    while k < 25 {
-        let p = a[k as usize];
-        up[k as usize] = b[p as usize];
-        k += 1;
-    }
-    up
-}
-
-// "LINK parents never form a ring": 24 steps above each task is none. The steps are doubled, up to 16, and 8 more.
-pub fn chains_end(t: Tables) -> bool
-    requires { ⌜ Orderly t ⌝ }
-    ensures { λ r. ⌜ r ≡ chainsEnd (read t) ⌝ }
-{
-    let one = above(t);
-    let two = further(one, one);
-    let four = further(two, two);
-    let eight = further(four, four);
-    let sixteen = further(eight, eight);
-    let all = further(sixteen, eight);
-    let mut right = true;
-    let mut k: u8 = 0;
-    while k < 24 {
-        k += 1;
-        right = right & (all[k as usize] == 0);
-    }
-    right
-}
-
-// No unit was met twice, and those that were met are the granted ones.
-fn exact(one: u64, two: u64, granted: u64) -> bool
-    ensures { λ r. ⌜ Exact one two granted r ⌝ }
-{
-    (two == 0) & (one == granted)
-}
-
-// "Core runs of a level are disjoint and with its free units make 64": `one` has the units that a run has, level by level, and `two` those that two have.
-pub fn core_held(t: Tables) -> bool
-    requires { ⌜ Orderly t ⌝ }
-    ensures { λ r. ⌜ r ≡ coreHeld (read t) ⌝ }
+    ensures { λ r. ⌜ Seen (read t) 24 (r .parents .one) (r .parents .two) (r .waits) (r .ends) (r .held) (r .twice) ⌝ }
 {
     let d = t.directory;
-    let mut one: [u64; 4] = [0; 4];
-    let mut two: [u64; 4] = [0; 4];
+    let mut parents = Parents { one: 0, two: 0 };
+    let mut waits: u64 = 0;
+    let mut ends = true;
+    let mut held: [u64; 4] = [0; 4];
+    let mut twice: [u64; 4] = [0; 4];
     let mut k: u8 = 0;
     while k < 24 {
         k += 1;
         let x = t.tasks[k as usize];
+        let mut y = x.parent;
+        parents = with_child(parents, y);
+        waits = waits | waiter(x.place, k);
+        let mut n: u8 = 1;
+        while (y != 0) & (n < 24) {
+            y = t.tasks[y as usize].parent;
+            n += 1;
+        }
+        ends = ends & (y == 0);
         if x.core == 1 {
-            let m = x.program;
-            let e = d.entries[m as usize];
-            let level = e.level;
+            let e = d.entries[x.program as usize];
+            let level = e.level as usize;
             let run = pools::mask(x.start, e.units);
-            two[level as usize] = two[level as usize] | (one[level as usize] & run);
-            one[level as usize] = one[level as usize] | run;
+            twice[level] = twice[level] | (held[level] & run);
+            held[level] = held[level] | run;
         }
     }
-    exact(one[1], two[1], t.pools[1])
-        & exact(one[2], two[2], t.pools[2])
-        & exact(one[3], two[3], t.pools[3])
+    Links {
+        parents: parents,
+        waits: waits,
+        ends: ends,
+        held: held,
+        twice: twice,
+    }
+}
+
+// None was met twice, and those that were met are the wanted ones.
+fn exact(one: u64, two: u64, wanted: u64) -> bool
+    ensures { λ r. ⌜ Exact one two wanted r ⌝ }
+{
+    (two == 0) & (one == wanted)
+}
+
+// "Core runs of a level are disjoint and with its free units make 64", "LINK parents never form a ring", and "a LINK waiter has exactly one child, a
+// parent is in LINK": of each set of blocks the slot 0, which is none, is left out.
+pub fn links_right(t: Tables) -> bool
+    requires { ⌜ Orderly t ⌝ }
+    ensures { λ r. ⌜ r ≡ (coreHeld (read t) && chainsEnd (read t) && linked (read t)) ⌝ }
+{
+    let g = seen(t);
+    let p = g.parents;
+    exact(g.held[1], g.twice[1], t.pools[1])
+        & exact(g.held[2], g.twice[2], t.pools[2])
+        & exact(g.held[3], g.twice[3], t.pools[3])
+        & g.ends
+        & exact(p.one / 2, p.two / 2, g.waits / 2)
 }

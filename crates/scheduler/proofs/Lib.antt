@@ -1,8 +1,5 @@
-pub mod Each
 pub mod Dispatched
 pub mod Granted
 pub mod Served
 pub mod GivenBack
 pub mod Shaped
-pub mod Walked
-pub mod Times

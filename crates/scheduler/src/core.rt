@@ -9,7 +9,6 @@ ghost use Rattle.tables.specs.State.{read};
 ghost use Rattle.tables.specs.Held.{Shows};
 ghost use Rattle.meaning.specs.Ready.{granted};
 ghost use Rattle.scheduler.specs.Core.{seatOf, Granting};
-use crate::blocks;
 use pools::Found;
 use tables::Tables;
 use tables::Task;

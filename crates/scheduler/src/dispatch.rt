@@ -6,7 +6,6 @@ ghost use Rattle.threads.specs.Threads.{hd};
 ghost use Rattle.tables.specs.State.{read, queue};
 ghost use Rattle.tables.specs.Held.{Held, Shows};
 ghost use Rattle.meaning.specs.Ready.{bestReady, runsFirst, dispatched};
-use crate::blocks;
 use tables::Tables;
 
 // The best level that has a ready task, or 0.

@@ -4,7 +4,6 @@ ghost use Rattle.threads.specs.Threads.{Free};
 ghost use Rattle.tables.specs.State.{read, joining};
 ghost use Rattle.tables.specs.Held.{Loose, Shows};
 ghost use Rattle.meaning.specs.Ready.{placed, madeReady};
-use crate::blocks;
 use crate::core;
 use pools::Found;
 use tables::Tables;

@@ -7,7 +7,6 @@ ghost use Rattle.tables.specs.Held.{Shows};
 ghost use Rattle.meaning.specs.Ready.{seated, served};
 ghost use Rattle.meaning.specs.Finish.{givenBack};
 ghost use Rattle.scheduler.specs.Core.{Waiters, Seating, Holder, unseated};
-use crate::blocks;
 use crate::core;
 use crate::ready;
 use pools::Found;

@@ -20,7 +20,7 @@ use Rattle.lawful.specs.Resting.{Lawful}
 use Rattle.lawful.specs.Accepts.{Accepts}
 use Rattle.lawful.specs.Tables.{LawfulTables}
 use Rattle.lawful.proofs.Keeps.{needs, one-of, last}
-use Rattle.services.specs.Starting.{Starting}
+use Rattle.tasking.specs.Starting.{Starting}
 
 module _ {t : Tables} {c : Call} (g : LawfulTables t) (a : Accepts (read t) c) where
   pub starting : starts c ≡ true → Starting t c

@@ -8,15 +8,15 @@ ghost use Rattle.lawful.specs.Tables.{LawfulTables};
 ghost use Rattle.threads.specs.Threads.{Sound};
 ghost use Rattle.meaning.specs.Services.{testEvent};
 use crate::events;
-use crate::starting;
-use crate::stopping;
-use crate::turns;
 use calls::Call;
 use channel::check;
 use channel::done;
 use channel::transfer;
 use meaning::Given;
 use tables::Tables;
+use tasking::starting;
+use tasking::stopping;
+use tasking::turns;
 
 // The result of most calls is 1.
 fn one(t: Tables) -> Given

@@ -9,10 +9,10 @@ ghost use Rattle.lawful.specs.Shape.{bit};
 ghost use Rattle.lawful.specs.Accepts.{Condition};
 ghost use Rattle.lawful.specs.Tables.{LawfulTables};
 use calls::Call;
-use scheduler::conditions;
-use scheduler::wait;
-use scheduler::wake;
 use tables::Tables;
+use waiting::conditions;
+use waiting::wait;
+use waiting::wake;
 use words::sets64;
 
 // The event is on, and every event waiter whose condition holds is made ready; or it is off, and nobody is woken.

@@ -8,6 +8,3 @@
 pub mod call;
 pub mod effects;
 pub mod events;
-pub mod starting;
-pub mod stopping;
-pub mod turns;

@@ -1,50 +1,20 @@
--- The second pass is its rules, as the functions that it calls give them.
-use Rattle.rules.proofs.Decides.{second-whole}
-use Rattle.tables.specs.State.{read}
+-- The second pass is its rules, as the two functions that it calls give them.
 use borrow.Author.Needs.{needs}
+use Rattle.rules.specs.Orderly.{secondPass}
+use mathlib.Core.Bool.{Bool, _&&_}
+use mathlib.Core.Path.{ap₂}
 use Rattle.rules.proofs.second_pass.Statement.{statement}
 use Rattle.rules.proofs.second_pass.Tie as tie
 
-core-held-requires : tie.Need-core-held-requires
-core-held-requires c κs = search needs
+links-right-requires : tie.Need-links-right-requires
+links-right-requires c κs = search needs
 
-chains-end-requires : tie.Need-chains-end-requires
-chains-end-requires c κs = search needs
-
-busy-requires : tie.Need-busy-requires
-busy-requires c κs = search needs
-
-core-waits-requires : tie.Need-core-waits-requires
-core-waits-requires c κs = search needs
-
-time-in-order-requires : tie.Need-time-in-order-requires
-time-in-order-requires c κs = search needs
-
-channel-in-order-requires : tie.Need-channel-in-order-requires
-channel-in-order-requires c κs = search needs
-
-linked-requires : tie.Need-linked-requires
-linked-requires c κs = search needs
-
-channel-busy-requires : tie.Need-channel-busy-requires
-channel-busy-requires c κs = search needs
+queues-right-requires : tie.Need-queues-right-requires
+queues-right-requires c κs = search needs
 
 returns : tie.Need-returns
-returns c =
-    second-whole (read (c .before .before .before .before .before .before .before .before .args .t)) (c .before .before .before .before .before .before .before .core-held .ensures) (c .before .before .before .before .before .before .chains-end .ensures)
-    (c .before .before .before .before .before .busy .ensures) (c .before .before .before .before .core-waits .ensures)
-    (c .before .before .before .time-in-order .ensures) (c .before .before .channel-in-order .ensures) (c .before .linked .ensures) (c .channel-busy .ensures)
+unfolding secondPass
+returns c = ap₂ (λ (a b : Bool). a && b) (c .before .links-right .ensures) (c .queues-right .ensures)
 
 pub second-pass-spec : {M : Type 1} → statement M
-second-pass-spec =
-    tie.close
-    (tie.spec
-    core-held-requires
-    chains-end-requires
-    busy-requires
-    core-waits-requires
-    time-in-order-requires
-    channel-in-order-requires
-    linked-requires
-    channel-busy-requires
-    returns)
+second-pass-spec = tie.close (tie.spec links-right-requires queues-right-requires returns)

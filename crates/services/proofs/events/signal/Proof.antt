@@ -3,7 +3,7 @@ use borrow.Author.Needs.{needs}
 use native.Mathlib.Omega.{arith}
 use borrow.Author.Tests.{eq-eqb, ne-eqb}
 use Rattle.meaning.specs.Services.{signal}
-use Rattle.services.proofs.Ticks.{on-shape}
+use Rattle.tasking.proofs.Ticks.{on-shape}
 use Rattle.services.proofs.events.signal.Statement.{statement}
 use Rattle.services.proofs.events.signal.Tie as tie
 

@@ -5,7 +5,7 @@ use Rattle.meaning.specs.Services.{wait}
 use Rattle.meaning.specs.Conditions.{dueOf}
 use Rattle.lawful.proofs.Leave.{stop}
 use Rattle.scheduler.proofs.Shaped.{hand-loose}
-use Rattle.services.proofs.Starts.{due-low}
+use Rattle.tasking.proofs.Starts.{due-low}
 use Rattle.services.proofs.events.wait.Statement.{statement}
 use Rattle.services.proofs.events.wait.Tie as tie
 

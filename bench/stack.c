@@ -1,0 +1,98 @@
+/* How much stack the exported functions take: each is called on a stack that
+   was filled with one byte before, and what is not that byte afterwards was
+   used. The deepest call is a program check that aborts 24 tasks, each linked
+   to by the one before; the others are those of a working day. */
+#define _XOPEN_SOURCE 600
+#include <stdio.h>
+#include <stdlib.h>
+#include <string.h>
+#include <ucontext.h>
+
+#include "call.h"
+#include "khilzurgee.h"
+#include "working.h"
+
+enum {
+    ROOM = 1 << 20,
+    FILL = 0xa5,
+    NO_UNITS = 9,    /* a module of the station's image that needs no core */
+    TASKS_IN_ALL = 24,
+    DAY = 20000      /* calls of a working day */
+};
+
+static unsigned char room[ROOM];
+static ucontext_t here, there;
+static struct khilzurgee_tables tables;
+static uint8_t image[IMAGE_LENGTH], call[CALL_LENGTH];
+static struct khilzurgee_line answer;
+
+static void load(void)
+{
+    answer = khilzurgee_load(&tables, image, IMAGE_LENGTH);
+}
+
+static void advance(void)
+{
+    answer = khilzurgee_advance(&tables, call, CALL_LENGTH);
+}
+
+static void nothing(void)
+{
+}
+
+/* The bytes of the stack that a function used, with what the switch takes. */
+static size_t used_by(void (*function)(void))
+{
+    size_t left = 0;
+    memset(room, FILL, ROOM);
+    if (getcontext(&there) != 0) {
+        exit(1);
+    }
+    there.uc_stack.ss_sp = room;
+    there.uc_stack.ss_size = ROOM;
+    there.uc_link = &here;
+    makecontext(&there, function, 0);
+    if (swapcontext(&here, &there) != 0) {
+        exit(1);
+    }
+    while (left < ROOM && room[left] == FILL) {
+        left++;
+    }
+    return ROOM - left;
+}
+
+static size_t called(uint8_t code, uint8_t number)
+{
+    memset(call, 0, CALL_LENGTH);
+    call[0] = code;
+    call[2] = number;
+    size_t used = used_by(advance);
+    if (answer.refusal != 0) {
+        fprintf(stderr, "bench: a call was refused\n");
+        exit(1);
+    }
+    return used;
+}
+
+int main(void)
+{
+    static struct working day;
+    size_t none = used_by(nothing), most = 0;
+    working_image(image);
+    size_t loading = used_by(load) - none;
+    called(OPERATOR_START, NO_UNITS);
+    for (int i = 1; i < TASKS_IN_ALL; i++) {
+        called(LINK, NO_UNITS);
+    }
+    size_t abort = called(PROGRAM_CHECK, 0) - none;
+    load();
+    working_begin(&day);
+    for (int i = 0; i < DAY; i++) {
+        working_next(&day, call);
+        size_t used = used_by(advance) - none;
+        most = used > most ? used : most;
+    }
+    printf("stack, in bytes: a load %zu, the program check that aborts %d tasks %zu, another call of a working day up to %zu\n", loading, TASKS_IN_ALL,
+           abort, most);
+    return 0;
+}

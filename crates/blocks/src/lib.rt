@@ -1,0 +1,73 @@
+// Blocks: task and request blocks in queues, and taken and freed. A block joins a queue and leaves it, a free block is taken, a used one is freed.
+//
+// It answers for 'Sizes' of document 01 where it says which free block is taken, and for what each later part asks of a queue. It knows the tables, and
+// nothing of what a task waits for.
+//
+// Each function takes the tables and gives them back changed. It asks for no more than makes it safe, and ensures that the tables then show the
+// meaning of what it does.
+pub mod free;
+
+ghost use mathlib.Core.Path.{_≡_};
+ghost use Prim.Native.Nat.{_<_};
+ghost use Rattle.threads.specs.Threads.{hd, Free, Member, Sound};
+ghost use Rattle.tables.specs.Blocks.{moving};
+ghost use Rattle.tables.specs.State.{read, queue, taskAt, entryOf, withTask, joining, leaving};
+ghost use Rattle.tables.specs.Held.{Shows};
+use image::Entry;
+use tables::Tables;
+use tables::Task;
+
+// A task block in a place that gives its last four fields no meaning.
+pub fn moving(task: Task, place: u8) -> Task
+    ensures { λ r. ⌜ r ≡ moving task place ⌝ }
+{
+    let mut x = task;
+    x.place = place;
+    x.count = 0;
+    x.events = 0;
+    x.time = 0;
+    x.request = 0;
+    x
+}
+
+// The entry of the task k's module: its level and its core units.
+pub fn entry_of(t: Tables, k: u8) -> Entry
+    requires { ⌜ (k < 25) × (taskAt (read t) k .program < 32) ⌝ }
+    ensures { λ r. ⌜ r ≡ entryOf (read t) k ⌝ }
+{
+    let x = t.tasks[k as usize];
+    let d = t.directory;
+    d.entries[x.program as usize]
+}
+
+// The first of a queue, or 0.
+pub fn first_of(t: Tables, q: u8) -> u8
+    requires { ⌜ Sound (t .threads) × (q < 9) ⌝ }
+    ensures { λ r. ⌜ r ≡ hd (queue (read t) q) ⌝ }
+{
+    let h = t.threads;
+    h.first[q as usize]
+}
+
+// The task k, of no queue, at the end of the queue q, with `task` for its block.
+pub fn join(t: Tables, q: u8, k: u8, task: Task) -> Tables
+    requires { ⌜ Free (t .threads) q k × (k < 25) ⌝ }
+    ensures { λ r. ⌜ Shows r (joining (withTask (read t) k task) q k) ⌝ }
+{
+    let mut r = t;
+    let h = threads::append(r.threads, q, k);
+    r.tasks[k as usize] = task;
+    r.threads = h;
+    r
+}
+
+// The block k leaves the queue q.
+pub fn leave(t: Tables, q: u8, k: u8) -> Tables
+    requires { ⌜ Member (t .threads) q k ⌝ }
+    ensures { λ r. ⌜ Shows r (leaving (read t) q k) ⌝ }
+{
+    let mut r = t;
+    let h = threads::remove(r.threads, q, k);
+    r.threads = h;
+    r
+}

@@ -1,0 +1,25 @@
+-- A used task block: what every place asks, and what its own place asks.
+use borrow.Author.Needs.{needs}
+use Rattle.fields.proofs.ByPlace.{used-whole}
+use Rattle.fields.proofs.block.used_right.Statement.{statement}
+use Rattle.fields.proofs.block.used_right.Tie as tie
+
+core-right-requires : tie.Need-core-right-requires
+core-right-requires c κs = search needs
+
+place-right-requires : tie.Need-place-right-requires
+place-right-requires c κs = search needs
+
+own-right-requires : tie.Need-own-right-requires
+own-right-requires c κs = search needs
+
+returns : tie.Need-returns
+returns c =
+    let a = c .before .before .before .before .before .before in
+    let told = a .args .told in
+    rw (c .before .before .core-right .ensures, c .before .place-right .ensures, c .own-right .ensures)
+    (used-whole (a .args .modules) (a .args .defined) (a .args .on) (told .stands) (told .level) (told .units) (told .runs) (told .free) (told .own) (told .pends) (a .args .x) (a .pre))
+
+pub used-right-spec : {M : Type 1} → statement M
+used-right-spec =
+    tie.close (tie.spec core-right-requires place-right-requires own-right-requires returns)

@@ -1,0 +1,26 @@
+-- An event waiter's test: true by itself in any other place, and in the event queue the rule's four tests.
+use Rattle.fields.specs.Blocks.{waiterRight}
+use borrow.Author.Tests.{eq-eqb, ne-eqb}
+use borrow.Author.Needs.{needs}
+use Rattle.fields.proofs.block.waiter_right.Statement.{statement}
+use Rattle.fields.proofs.block.waiter_right.Tie as tie
+
+returns : tie.Need-returns
+unfolding waiterRight
+returns c = rw (ne-eqb _ 4 (c .if1 .taken))
+
+cast-count : tie.Need-cast-count
+cast-count c = search needs
+
+ones-requires : tie.Need-ones-requires
+ones-requires c κs = search needs
+
+ones-requires-2 : tie.Need-ones-requires-2
+ones-requires-2 c κs = search needs
+
+returns-2 : tie.Need-returns-2
+unfolding waiterRight
+returns-2 c = rw (eq-eqb _ 4 (c .before .before .before .before .before .before .before .if1 .left)) (cc)
+
+pub waiter-right-spec : {M : Type 1} → statement M
+waiter-right-spec = tie.close (tie.spec returns cast-count ones-requires ones-requires-2 returns-2)

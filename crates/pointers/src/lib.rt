@@ -1,0 +1,82 @@
+// Pointers: whether any pointers are those of nine queues, and in which queue each block stands.
+//
+// It answers for 'Pointers are sound' of the table rules. It knows pointers, and nothing of what a block holds.
+ghost use mathlib.Core.Path.{_≡_};
+ghost use Rattle.pointers.specs.Walked.{clearBy, restClear, Walks};
+use threads::Threads;
+
+// A block that is marked with no queue has pointers of zero.
+fn clear(mark: u8, fwd: u8, back: u8) -> bool
+    ensures { λ r. ⌜ r ≡ clearBy mark fwd back ⌝ }
+{
+    !(mark == 9) | ((fwd == 0) & (back == 0))
+}
+
+// Every block that has no mark, and slot 0, has pointers of zero.
+fn rest_clear(t: Threads, marks: [u8; 41]) -> bool
+    ensures { λ r. ⌜ r ≡ restClear t marks ⌝ }
+{
+    let mut right = clear(marks[0], t.fwd[0], t.back[0]);
+    let mut i: u8 = 0;
+    while i < 40 {
+        i += 1;
+        right = right & clear(marks[i as usize], t.fwd[i as usize], t.back[i as usize]);
+    }
+    right
+}
+
+// Whether the pointers are sound; and, where they are, the queue of each block, 9 for none.
+pub struct Standing {
+    pub sound: bool,
+    pub marks: [u8; 41],
+}
+
+// The two as one answer.
+fn told(sound: bool, marks: [u8; 41]) -> Standing
+    ensures { λ r. ⌜ r ≡ record { sound = sound; marks = marks } ⌝ }
+{
+    Standing {
+        sound: sound,
+        marks: marks,
+    }
+}
+
+// Are these the pointers of nine lists of blocks, in which none stands twice? Each queue is walked from its first block along `fwd`, and each
+// block is marked with its queue: a marked block ends the walk, so that no ring can hold it.
+pub fn walked(t: Threads) -> Standing
+    ensures { λ r. ⌜ Walks t (r .sound) (r .marks) ⌝ }
+{
+    let mut marks: [u8; 41] = [9; 41];
+    let mut q: u8 = 0;
+    let mut p: u8 = 0;
+    let mut y: u8 = t.first[0];
+    let mut n: u8 = 50;
+    while n != 0 {
+        n -= 1;
+        if y == 0 {
+            if t.last[q as usize] != p {
+                return told(false, marks);
+            }
+            if q == 8 {
+                return told(rest_clear(t, marks), marks);
+            }
+            q += 1;
+            p = 0;
+            y = t.first[q as usize];
+            continue;
+        }
+        if 40 < y {
+            return told(false, marks);
+        }
+        if marks[y as usize] != 9 {
+            return told(false, marks);
+        }
+        if t.back[y as usize] != p {
+            return told(false, marks);
+        }
+        marks[y as usize] = q;
+        p = y;
+        y = t.fwd[y as usize];
+    }
+    told(false, marks)
+}
