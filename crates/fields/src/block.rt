@@ -14,6 +14,7 @@ use words::sets64;
 
 // ---- Task blocks.
 
+// Every field is zero.
 pub fn blank_task(x: Task) -> bool
     ensures { λ r. ⌜ r ≡ blankTask x ⌝ }
 {
@@ -128,6 +129,7 @@ fn own_right(defined: u64, on: u64, told: Told, x: Task) -> bool
     }
 }
 
+// A used block keeps what is asked in every place, and what its own place asks.
 pub fn used_right(modules: u8, defined: u64, on: u64, told: Told, x: Task) -> bool
     requires { ⌜ x .place ≢ 0 ⌝ }
     ensures { λ r. ⌜ r ≡ (fieldsRight modules (told .units) x && placeRight (told .stands) (told .level) (told .runs) (told .free) x && waiterRight defined on x && pendingRight (told .own) (told .pends) x) ⌝ }
@@ -142,6 +144,7 @@ pub fn used_right(modules: u8, defined: u64, on: u64, told: Told, x: Task) -> bo
 
 // ---- Request blocks.
 
+// Every field is zero.
 pub fn blank_request(q: Request) -> bool
     ensures { λ r. ⌜ r ≡ blankRequest q ⌝ }
 {
@@ -174,6 +177,7 @@ fn request_queue(place: u8) -> u8
     if place == 1 { 8 } else { 9 }
 }
 
+// A request block is zero and free, or its fields are in range, it stands where its place says, and its owner is a used task.
 pub fn request_right(stands: u8, on: bool, free: bool, idle: u32, q: Request) -> bool
     ensures { λ r. ⌜ r ≡ requestRight stands on free (usedBy idle (q .owner)) q ⌝ }
 {

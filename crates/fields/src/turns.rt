@@ -17,6 +17,7 @@ pub struct Asked {
     pub owners: u32,
 }
 
+// Whether the request blocks pass, by the parts of the tables that they need, and whose requests are pending.
 pub fn requests(
     requests: [Request; 17],
     marks: [u8; 41],
