@@ -1,7 +1,7 @@
 // Blocks: task and request blocks in queues, and taken and freed. A block joins a queue and leaves it, a free block is taken, a used one is freed.
 //
-// It answers for 'Sizes' of document 01 where it says which free block is taken, and for what each later part asks of a queue. It knows the tables, and
-// nothing of what a task waits for.
+// It answers for "A freed block is used again: always the lowest-numbered free one" of document 01, and for what each later part asks of a queue. It knows
+// the tables, and nothing of what a task waits for.
 //
 // Each function takes the tables and gives them back changed. It asks for no more than makes it safe, and ensures that the tables then show the
 // meaning of what it does.

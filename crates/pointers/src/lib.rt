@@ -1,6 +1,7 @@
 // Pointers: whether any pointers are those of nine queues, and in which queue each block stands.
 //
-// It answers for 'Pointers are sound' of the table rules. It knows pointers, and nothing of what a block holds.
+// It answers for "Task and request blocks carry a forward and a back pointer for the queue they are on", one of the table rules of document 01. It knows
+// pointers, and nothing of what a block holds.
 ghost use mathlib.Core.Path.{_≡_};
 ghost use Rattle.pointers.specs.Walked.{clearBy, restClear, Walks};
 use threads::Threads;
