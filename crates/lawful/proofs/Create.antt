@@ -2,7 +2,7 @@
 -- the child's rank is one above its parent's.
 use mathlib.Core.Bool.{cond}
 use mathlib.Core.Path.{_≡_, refl, sym, ap, _∙_}
-use mathlib.Core.Logic.{_≢_, ⊎-elim}
+use mathlib.Core.Logic.{_≢_, inr, ⊎-elim}
 use mathlib.Core.List.{List, _∷_}
 use Prim.Native.Nat.{ℕ, suc, _+_, _≤_, _<_}
 use native.Mathlib.Omega.{arith}
@@ -27,6 +27,7 @@ use Rattle.lawful.proofs.Queues.{up-same}
 use Rattle.lawful.proofs.Cored.{holding-none}
 use Rattle.lawful.proofs.Members.{not-in}
 use Rattle.lawful.proofs.Free.{dropped-same, dropped-other}
+use Rattle.lawful.proofs.Freed.{new-fields}
 
 module _ {s : State} {h : List ℕ} (g : Shape s h 0) (k m p : ℕ) (some : 1 ≤ k) (low : k ≤ 24) (idle : bit (s .idle) k ≡ 1)
     (known : m < s .directory .modules) (parent : p ≤ 24) (apart : p ≢ k) where
@@ -82,23 +83,7 @@ module _ {s : State} {h : List ℕ} (g : Shape s h 0) (k m p : ℕ) (some : 1 �
   unfolding queueFor
   made-own =
       rw (held-place made h k) (record {
-        fields = rw same (record {
-          kind = omega arith;
-          place = omega arith;
-          free = λ z. absurd (omega (arith, z));
-          program = λ z. known;
-          parent = parent;
-          core = omega arith;
-          inside = λ z. absurd (omega (arith, z));
-          start = λ z. refl;
-          unneeded = λ z. refl;
-          waits = λ z. absurd (omega (arith, z));
-          needs = λ i j. omega arith;
-          event = λ i j. omega arith;
-          time = λ i j. refl;
-          request = λ i j. refl;
-          passes = λ z. absurd (omega (arith, z));
-        });
+        fields = rw same (new-fields (s .directory) (inr refl) (λ z. absurd (omega (arith, z))) (λ z. known) parent);
         queued = λ q l. no-queue q l ∙ sym (one-other 9 q (λ z. omega (arith, z, l)));
         runs = was .runs ∙ ap (λ (x : ℕ). one x Running) was-free ∙ one-other Free Running (λ z. omega (arith, z)) ∙ sym (one-other Hand Running (λ z. omega (arith, z)));
         idle = dropped-same (s .idle) k ∙ sym (one-other Hand Free (λ z. omega (arith, z)));
