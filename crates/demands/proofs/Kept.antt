@@ -2,33 +2,51 @@
 -- of the tables t that are reached from an image, `Reached image t`; each cites a rule of the tables, all of which hold of them.
 use mathlib.Core.Path.{_≡_, refl, sym, ap, _∙_}
 use mathlib.Core.Bool.{true, false}
-use mathlib.Core.Logic.{_≢_, _⊎_}
+use mathlib.Core.Logic.{_≢_, _⊎_, ⊎-elim}
 use mathlib.Core.List.{List, [], _∷_, _++_}
 use Prim.Native.Nat.{ℕ, _+_, _-_, _≤_, _<_}
 use native.Mathlib.Omega.{arith}
-use lib.ListN.{getD}
+use lib.ListN.{length, getD}
 use Rattle.threads.specs.Threads.{count, lst, Sound}
+use Rattle.threads.proofs.Lists.{tested}
 use Rattle.threads.proofs.Read.{next-of, prev-of}
-use Rattle.words.specs.Words.{_among_}
+use Rattle.words.specs.Words.{_among_, each}
+use Rattle.words.specs.Rows.{firstOf}
 use Rattle.image.specs.declared.Outcome.the-variants.{Refused, Accepted}
 use Rattle.tables.specs.declared.Tables.{Tables}
 use Rattle.tables.specs.Blocks.{Free, Running, Queued, OnChannel}
-use Rattle.tables.specs.State.{State, eventQueue, coreQueue, readyQueue, channelQueue, node, taskAt, requestAt, poolAt, queue, levelOf, unitsOf, read}
-use Rattle.calls.specs.Calls.{callOf}
+use Rattle.tables.specs.State.{State, eventQueue, coreQueue, readyQueue, channelQueue, node, taskAt, requestAt, poolAt, queue, levelOf, unitsOf, withRunning, read}
+use Rattle.calls.specs.Calls.{callOf, needsTask}
 use Rattle.pools.specs.Pools.{startOf}
 use Rattle.meaning.specs.Conditions.{enough}
+use Rattle.meaning.specs.Finish.{aborted}
 use Rattle.meaning.specs.Rules.{queueFor, upward, rulesHold}
+use Rattle.meaning.specs.Refusals.{refusals}
 use Rattle.meaning.specs.Services.{effect}
-use Rattle.meaning.specs.Step.{accepted, stepOf}
+use Rattle.meaning.specs.Step.{refused, accepted, stepOf}
 use Rattle.lawful.specs.Shape.{one, bit, sum, holding, placeOf}
 use Rattle.lawful.specs.Resting.{Lawful}
 use Rattle.lawful.specs.Tables.{Reached}
+use Rattle.lawful.specs.Taken.{taken, takenBy}
 use Rattle.lawful.proofs.Bits.{bit-le}
 use Rattle.lawful.proofs.Chains.{chain-ends, each-once}
 use Rattle.lawful.proofs.Corollaries.{runs-apart}
 use Rattle.lawful.proofs.Newly.{First, newly-first}
+use Rattle.lawful.proofs.Stays.{effect-puts, newly, undisturbed}
+use Rattle.lawful.proofs.Taken.{at-most, each-taken-once, check-takes, the-chain as chain, none-cut as cuts-none}
 use Rattle.lawful.proofs.Steps.{reached-lawful, reached-rules}
 use Rattle.demands.proofs.Answered.{was-accepted, ends-accepted, not-nine}
+
+-- who runs after a step of any tables
+running-new : (t : Tables) (bytes : List ℕ) → let u = stepOf t bytes .tables in u .running ≢ t .running → u .running ≢ 0 → First (effect (read t) (callOf bytes) .state) (u .running)
+unfolding stepOf accepted refused
+running-new t bytes =
+    ⊎-elim (λ z. rw (z .0) (newly (read t) (callOf bytes))) (λ z. rw (z .0) (λ n d. absurd (n refl))) (tested (firstOf (refusals t bytes)) 0)
+
+running-stays : (t : Tables) (bytes : List ℕ) → needsTask (callOf bytes .code) ≡ false → t .running ≢ 0 → stepOf t bytes .tables .running ≡ t .running
+unfolding stepOf accepted refused
+running-stays t bytes n d =
+    ⊎-elim (λ z. rw (z .0) (undisturbed (read t) (callOf bytes) n d)) (λ z. rw (z .0)) (tested (firstOf (refusals t bytes)) 0)
 
 module _ (image : List ℕ) {t : Tables} (reached : Reached image t) where
   abbrev s : State
@@ -107,17 +125,44 @@ module _ (image : List ℕ) {t : Tables} (reached : Reached image t) where
   pub none-twice : (i j k : ℕ) → k ≤ 24 → i < j → upward s j k ≢ 0 → upward s j k ≢ upward s i k
   none-twice = each-once (lawful .shape)
 
+  -- the tasks that a program check takes are the running one and those above it, as the tables have them; it takes them in turn, each once; and a bound above 24 would
+  -- give the same
+  pub abort-takes : (bytes : List ℕ) → callOf bytes .code ≡ 34 → effect s (callOf bytes) .state ≡ each taken (takenBy 24 (t .running) (withRunning s 0)) (withRunning s 0)
+  abort-takes bytes e = check-takes s (callOf bytes) e
+
+  pub the-chain : (i : ℕ) → getD (takenBy 24 (t .running) (withRunning s 0)) i 0 ≡ upward s i (t .running)
+  the-chain = chain lawful
+
+  pub at-most-24 : length (takenBy 24 (t .running) (withRunning s 0)) ≤ 24
+  at-most-24 = at-most 24 (t .running) (withRunning s 0)
+
+  pub taken-once : (y : ℕ) → count y (takenBy 24 (t .running) (withRunning s 0)) ≤ 1
+  taken-once = each-taken-once lawful
+
+  pub none-cut : (n : ℕ) → 24 ≤ n → aborted n (t .running) (withRunning s 0) ≡ aborted 24 (t .running) (withRunning s 0)
+  none-cut = cuts-none lawful
+
   -- ---- "The processor is idle only if nothing is ready"
   pub idle-only : t .running ≡ 0 → (level : ℕ) → 1 ≤ level → level ≤ 3 → queue s (readyQueue level) ≡ []
   idle-only = lawful .busy .busy
 
-  -- ---- "each task newly dispatched is the first of the best level that is ready": after an accepted call the same task runs as the call itself left running, or
-  -- none ran, and the one that runs is such a one
-  pub newly-dispatched : (bytes : List ℕ) (r : ℕ) → stepOf t bytes .outcome ≡ Accepted r
-      → let left = effect s (callOf bytes) .state in
+  -- ---- "each task newly dispatched is the first of the best level that is ready": a call itself puts nobody on the processor, and who runs after it and did not
+  -- before is the first of the best level that is ready once the call has done its work
+  pub none-put-on : (bytes : List ℕ) → let left = effect s (callOf bytes) .state in (left .running ≡ t .running) ⊎ (left .running ≡ 0)
+  none-put-on bytes = effect-puts s (callOf bytes) .none-on
+
+  pub newly-dispatched : (bytes : List ℕ) → let u = stepOf t bytes .tables in u .running ≢ t .running → u .running ≢ 0 → First (effect s (callOf bytes) .state) (u .running)
+  newly-dispatched bytes = running-new t bytes
+
+  -- and of one that stops and runs again: it too was the first
+  pub dispatched-first : (bytes : List ℕ) (r : ℕ) → stepOf t bytes .outcome ≡ Accepted r → let left = effect s (callOf bytes) .state in
       (stepOf t bytes .tables .running ≡ left .running) ⊎ ((left .running ≡ 0) × First left (stepOf t bytes .tables .running))
   unfolding accepted
-  newly-dispatched bytes r e = rw (ends-accepted t bytes (was-accepted t bytes r e .0)) (newly-first (effect s (callOf bytes) .state))
+  dispatched-first bytes r e = rw (ends-accepted t bytes (was-accepted t bytes r e .0)) (newly-first (effect s (callOf bytes) .state))
+
+  -- ---- Document 01: "an interrupt never takes the processor from a running background task". All but a program check, which aborts it.
+  pub never-taken : (bytes : List ℕ) → needsTask (callOf bytes .code) ≡ false → t .running ≢ 0 → stepOf t bytes .tables .running ≡ t .running
+  never-taken bytes = running-stays t bytes
 
   -- ---- "No event waiter's condition already holds"
   pub no-condition-holds : (k : ℕ) → 1 ≤ count k (queue s eventQueue) → enough s (taskAt s k .count) (taskAt s k .events) ≡ false

@@ -78,7 +78,7 @@ module _ {s : State} {k : ℕ} (i : InHand s k [] 0) (r : Rest s []) (u : 1 ≤ 
           shape = shape-hands (swapped (unlinked s k) p k []) (unlink (grabbed .shape) k (i .some) (i .low) refl);
         }
 
-    done : Finishes (unlinked s k) (ended (unlinked s k) k) k (p ∷ []) []
+    pub done : Finishes (unlinked s k) (ended (unlinked s k) k) k (p ∷ []) []
     done = ends child (unlink-rest (grabbed .shape) k (i .some) (i .low) refl r) (lone-needs (i .shape))
 
     next-hand : InHand (ended (unlinked s k) k) p [] 0
@@ -112,15 +112,15 @@ module _ {s : State} {k : ℕ} (i : InHand s k [] 0) (r : Rest s []) (u : 1 ≤ 
     next-chain : (n : ℕ) → upward s n p ≡ 0 → upward (ended (unlinked s k) k) n p ≡ 0
     next-chain n e = upward-shorter s (done .shape) parents n p e
 
-aborted-step : (n k : ℕ) (s : State) → k ≢ 0 → aborted (suc n) k s ≡ aborted n (taskAt s k .parent) (ended (unlinked s k) k)
+pub aborted-step : (n k : ℕ) (s : State) → k ≢ 0 → aborted (suc n) k s ≡ aborted n (taskAt s k .parent) (ended (unlinked s k) k)
 unfolding aborted
 aborted-step n k s d = rw (ne-eqb k 0 d)
 
-upward-zero : (s : State) (k : ℕ) → upward s 0 k ≡ k
+pub upward-zero : (s : State) (k : ℕ) → upward s 0 k ≡ k
 unfolding upward
 upward-zero s k = refl
 
-upward-step : (s : State) (n k : ℕ) → upward s (suc n) k ≡ upward s n (taskAt s k .parent)
+pub upward-step : (s : State) (n k : ℕ) → upward s (suc n) k ≡ upward s n (taskAt s k .parent)
 unfolding upward
 upward-step s n k = refl
 

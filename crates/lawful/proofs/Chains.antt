@@ -38,7 +38,7 @@ lower-mono : (y a b : ℕ) → a < b → lower y a ≤ lower y b
 lower-mono y a b h =
     ⊎-elim (λ z. omega (arith, lower-lt y a z, lower-lt y b (omega (arith, z, h)))) (λ z. omega (arith, lower-ge y a z)) (under-or-from y a)
 
-upward-none : {s : State} {h : List ℕ} {e : ℕ} → Shape s h e → (n : ℕ) → upward s n 0 ≡ 0
+pub upward-none : {s : State} {h : List ℕ} {e : ℕ} → Shape s h e → (n : ℕ) → upward s n 0 ≡ 0
 unfolding upward
 upward-none g zero = refl
 upward-none {s} g (suc n) = ap (upward s n) (ap (λ (t : Task). t .parent) (g .blank .block)) ∙ upward-none g n

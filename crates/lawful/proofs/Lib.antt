@@ -39,12 +39,16 @@ pub mod Clearing
 pub mod Finish
 pub mod Chains
 pub mod Abort
+pub mod Taken
 pub mod Timer
 pub mod Channel
 pub mod IoDone
 -- Every call.
 pub mod Loaded
 pub mod Keeps
+pub mod Small
+pub mod Chain
+pub mod Stays
 pub mod Accepted
 pub mod Corollaries
 -- The rules as tests and as records.

@@ -24,7 +24,7 @@ use Rattle.lawful.proofs.Tests.{all-to}
 use Rattle.lawful.proofs.Bits.{bit-none}
 
 module _ {ℓ} {A : Type ℓ} (x : A) where
-  alike : (n i : ℕ) → getD (replicate n x) i x ≡ x
+  pub alike : (n i : ℕ) → getD (replicate n x) i x ≡ x
   alike zero i = refl
   alike (suc n) zero = refl
   alike (suc n) (suc i) = alike n i

@@ -29,7 +29,7 @@ module _ (s : State) where
       let p = filled (queue s level) f in
       rw e (record { level = level; best = lo; worst = hi; behind = p .0; first = p .1; better = b })
 
-  first-best : bestReady s ≢ 0 → First s (hd (queue s (bestReady s)))
+  pub first-best : bestReady s ≢ 0 → First s (hd (queue s (bestReady s)))
   first-best n = go (isEmpty (queue s 1)) (isEmpty (queue s 2)) (isEmpty (queue s 3)) refl refl refl
     where
       go : (a b c : Bool) → isEmpty (queue s 1) ≡ a → isEmpty (queue s 2) ≡ b → isEmpty (queue s 3) ≡ c → First s (hd (queue s (bestReady s)))
