@@ -42,7 +42,7 @@ pub fn create(t: Tables, k: u8, program: u8, parent: u8) -> Tables
     ensures { λ r. ⌜ Shows r (created (read t) k program parent) ⌝ }
 {
     let mut r = t;
-    r.idle = words::sets32::dropping(r.idle, k as u32);
+    r.freeTasks = words::sets32::dropping(r.freeTasks, k as u32);
     r.tasks[k as usize] = new_task(program, parent);
     r
 }
@@ -53,7 +53,7 @@ pub fn free_task(t: Tables, k: u8) -> Tables
     ensures { λ r. ⌜ Shows r (freedTask (read t) k) ⌝ }
 {
     let mut r = t;
-    r.idle = words::sets32::adding(r.idle, k as u32);
+    r.freeTasks = words::sets32::adding(r.freeTasks, k as u32);
     r.tasks[k as usize] = new_task(0, 0);
     r
 }
@@ -64,7 +64,7 @@ pub fn free_request(t: Tables, n: u8) -> Tables
     ensures { λ r. ⌜ Shows r (freedRequest (read t) n) ⌝ }
 {
     let mut r = t;
-    r.spare = words::sets32::adding(r.spare, n as u32);
+    r.freeRequests = words::sets32::adding(r.freeRequests, n as u32);
     r.requests[n as usize] = Request {
         place: 0,
         owner: 0,

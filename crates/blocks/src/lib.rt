@@ -9,9 +9,9 @@ pub mod free;
 
 ghost use mathlib.Core.Path.{_≡_};
 ghost use Prim.Native.Nat.{_<_};
-ghost use Rattle.threads.specs.Threads.{hd, Free, Member, Sound};
+ghost use Rattle.threads.specs.Threads.{hd, Outside, Member, Sound};
 ghost use Rattle.tables.specs.Blocks.{moving};
-ghost use Rattle.tables.specs.State.{read, queue, taskAt, entryOf, withTask, joining, leaving};
+ghost use Rattle.tables.specs.State.{read, queue, taskAt, entryFor, withTask, joining, leaving};
 ghost use Rattle.tables.specs.Held.{Shows};
 use image::Entry;
 use tables::Tables;
@@ -33,7 +33,7 @@ pub fn moving(task: Task, place: u8) -> Task
 // The entry of the task k's module: its level and its core units.
 pub fn entry_of(t: Tables, k: u8) -> Entry
     requires { ⌜ (k < 25) × (taskAt (read t) k .program < 32) ⌝ }
-    ensures { λ r. ⌜ r ≡ entryOf (read t) k ⌝ }
+    ensures { λ r. ⌜ r ≡ entryFor (read t) k ⌝ }
 {
     let x = t.tasks[k as usize];
     let d = t.directory;
@@ -51,7 +51,7 @@ pub fn first_of(t: Tables, q: u8) -> u8
 
 // The task k, of no queue, at the end of the queue q, with `task` for its block.
 pub fn join(t: Tables, q: u8, k: u8, task: Task) -> Tables
-    requires { ⌜ Free (t .threads) q k × (k < 25) ⌝ }
+    requires { ⌜ Outside (t .threads) q k × (k < 25) ⌝ }
     ensures { λ r. ⌜ Shows r (joining (withTask (read t) k task) q k) ⌝ }
 {
     let mut r = t;

@@ -10,15 +10,15 @@ use lib.ListN.{getD}
 use borrow.Author.Tests.{eqb-true, ne-eqb, ltb-true}
 use Rattle.words.specs.Words.{if_then_else_, below, allOf, _among_}
 use Rattle.words.proofs.Lists.{and-left, and-right, all-at}
-use Rattle.calls.specs.Calls.{services, interrupts, known, needsTask, entryOf}
+use Rattle.calls.specs.Calls.{services, interrupts, known, needsTask, codeEntry}
 
 -- ---- Codes 0 to 35: the test over the whole table.
 
 abbrev right : List ℕ → ℕ → Bool
-right table code = eqb (getD table code 0) (entryOf code)
+right table code = eqb (getD table code 0) (codeEntry code)
 
-pub table-right : (table : List ℕ) (code : ℕ) → code < 36 → allOf (right table) (below 36) ≡ true → getD table code 0 ≡ entryOf code
-table-right table code low test = eqb-true (getD table code 0) (entryOf code) (all-at (right table) 36 code test low)
+pub table-right : (table : List ℕ) (code : ℕ) → code < 36 → allOf (right table) (below 36) ≡ true → getD table code 0 ≡ codeEntry code
+table-right table code low test = eqb-true (getD table code 0) (codeEntry code) (all-at (right table) 36 code test low)
 
 -- ---- Codes from 36 on.
 
@@ -40,8 +40,8 @@ needs-past : (code : ℕ) → 36 ≤ code → needsTask code ≡ false
 unfolding needsTask allOf
 needs-past code past = rw (among-past services refl code past, ne-eqb code 34 (λ z. omega arith))
 
-pub entry-past : (code : ℕ) → 36 ≤ code → 0 ≡ entryOf code
-unfolding entryOf
+pub entry-past : (code : ℕ) → 36 ≤ code → 0 ≡ codeEntry code
+unfolding codeEntry
 entry-past code past = rw (needs-past code past, known-past code past)
 
 -- ---- What an entry says.
@@ -68,10 +68,10 @@ says-known true is h = sym (h refl)
 says-known false true h = refl
 says-known false false h = refl
 
-pub entry-needs : (code : ℕ) → eqb (entryOf code) 2 ≡ needsTask code
-unfolding entryOf
+pub entry-needs : (code : ℕ) → eqb (codeEntry code) 2 ≡ needsTask code
+unfolding codeEntry
 entry-needs code = says-needs (needsTask code) (known code)
 
-pub entry-known : (code : ℕ) → not (eqb (entryOf code) 0) ≡ known code
-unfolding entryOf
+pub entry-known : (code : ℕ) → not (eqb (codeEntry code) 0) ≡ known code
+unfolding codeEntry
 entry-known code = says-known (needsTask code) (known code) (needs-known code)

@@ -45,8 +45,8 @@ unfoldable pub needsTask : ℕ → Bool
 needsTask code = code among services || eqb code 34
 
 -- "A const array of 36 entries says known or unknown and whether a running task is needed": 0 unknown, 1 known, 2 known and needs one
-unfoldable pub entryOf : ℕ → ℕ
-entryOf code = if needsTask code then 2 else if known code then 1 else 0
+unfoldable pub codeEntry : ℕ → ℕ
+codeEntry code = if needsTask code then 2 else if known code then 1 else 0
 
 -- "An answer has three numbers: refusal (0 if accepted), result, running task afterwards (0 if idle)." A refused call "names the running task unchanged
 -- (0 with refusal 9)".

@@ -1,6 +1,6 @@
 // The fixed table over the codes 0 to 35, and what it says of any code.
 ghost use mathlib.Core.Path.{_≡_};
-ghost use Rattle.calls.specs.Calls.{known, needsTask, entryOf};
+ghost use Rattle.calls.specs.Calls.{known, needsTask, codeEntry};
 
 // For each code: 0 unknown, 1 known, 2 known and needs a running task.
 const CODES: [u8; 36] = [
@@ -44,7 +44,7 @@ const CODES: [u8; 36] = [
 
 // The table's entry for a code; a code past the table is unknown.
 fn entry(code: u8) -> u8
-    ensures { λ r. ⌜ r ≡ entryOf code ⌝ }
+    ensures { λ r. ⌜ r ≡ codeEntry code ⌝ }
 {
     let at = code as usize;
     if at < 36 { CODES[at] } else { 0 }

@@ -18,23 +18,23 @@ use Rattle.meaning.specs.Channel.{queued, channelLevel}
 use Rattle.meaning.specs.Services.{asked}
 use Rattle.lawful.proofs.Shape.{one-other}
 use Rattle.lawful.proofs.Queues.{counts-none, count-placed, set-queue, set-others}
-use Rattle.lawful.proofs.Channel.{spare-some, spare-low, spare-free}
+use Rattle.lawful.proofs.Channel.{freeRequests-some, freeRequests-low, freeRequests-free}
 use Rattle.channel.specs.Queue.{Owned, Entering}
 use Rattle.channel.specs.Transfer.{Transferring}
 use Rattle.channel.proofs.Shaped.{program-low, owner-low}
 
 module _ {s : State} {c : Call} (f : Fit s) (g : Transferring s c) where
   abbrev r : ℕ
-  r = least (s .spare)
+  r = least (s .freeRequests)
 
   abbrev x : Request
   x = request Queued (s .running) (c .number) (c .code) (c .amount)
 
-  abbrev some : 1 ≤ least (s .spare)
-  some = spare-some (g .shape) (g .spare)
+  abbrev some : 1 ≤ least (s .freeRequests)
+  some = freeRequests-some (g .shape) (g .freeRequests)
 
-  abbrev low : least (s .spare) ≤ 16
-  low = spare-low (g .shape) (g .spare)
+  abbrev low : least (s .freeRequests) ≤ 16
+  low = freeRequests-low (g .shape) (g .freeRequests)
 
   in-no-queue : counts (node r) (s .queues) ≡ 0
   in-no-queue =
@@ -42,7 +42,7 @@ module _ {s : State} {c : Call} (f : Fit s) (g : Transferring s c) where
       counts-none (node r) (s .queues)
       (λ q l.
       ⊎-elim
-      (λ z. rw (z .1) (w .queued ∙ one-other _ Queued (λ y. omega (arith, y, spare-free (g .shape) (g .spare)))))
+      (λ z. rw (z .1) (w .queued ∙ one-other _ Queued (λ y. omega (arith, y, freeRequests-free (g .shape) (g .freeRequests)))))
       (λ z. w .others q (omega (arith, z .1, l, g .shape .sizes .queues)))
       (tested q channelQueue))
 

@@ -8,7 +8,7 @@ use native.Mathlib.Omega.{arith}
 use lib.ListN.{set, getD, length-set, replicate}
 use lib.Seq.{getD-set-same, getD-set-other}
 use Rattle.threads.proofs.Lists.{tested}
-use Rattle.words.specs.Words.{placedBy}
+use Rattle.words.specs.Words.{insertedBy}
 use Rattle.tables.specs.declared.Tables.{Tables}
 use Rattle.tables.specs.State.{State, read, channelQueue, node, requestAt, queue, levelOf}
 use Rattle.tables.specs.Held.{Held}
@@ -35,7 +35,7 @@ levels-more s {keys} n {v} h l e =
 
 -- by those levels a request block comes to the place in the queue that its owner's level gives it
 pub placed-by-level : {t : Tables} {keys : List ℕ} {r : ℕ} → Held t → Levels (read t) 16 keys → 1 ≤ r → r ≤ 16
-    → placedBy (λ y. getD keys y 0) (node r) (queue (read t) channelQueue) ≡ placedBy (channelLevel (read t)) (node r) (queue (read t) channelQueue)
+    → insertedBy (λ y. getD keys y 0) (node r) (queue (read t) channelQueue) ≡ insertedBy (channelLevel (read t)) (node r) (queue (read t) channelQueue)
 placed-by-level {t} {keys} h l a b =
     placed-same (λ y. getD keys y 0) (channelLevel (read t)) _ (queue (read t) channelQueue) (l .level _ a b)
     (λ y c.

@@ -13,20 +13,20 @@ use Rattle.tables.specs.Blocks.{OnChannel}
 use Rattle.tables.specs.State.{State, read, channelQueue, requestOf, withChannel, queue, leaving}
 use Rattle.tables.specs.Held.{Held}
 use Rattle.tables.proofs.Held.{first-member}
-use Rattle.meaning.specs.Channel.{requestPlaced, started}
+use Rattle.meaning.specs.Channel.{requestPlaced, channelFilled}
 
 module _ (s : State) where
-  pub in-use : s .channel ≢ 0 → started s ≡ s
-  unfolding started
+  pub in-use : s .channel ≢ 0 → channelFilled s ≡ s
+  unfolding channelFilled
   in-use n = rw (ne-eqb _ _ n)
 
-  pub none-queued : s .channel ≡ 0 → isEmpty (queue s channelQueue) ≡ true → started s ≡ s
-  unfolding started
+  pub none-queued : s .channel ≡ 0 → isEmpty (queue s channelQueue) ≡ true → channelFilled s ≡ s
+  unfolding channelFilled
   none-queued z e = rw (eq-eqb _ _ z, e)
 
   pub goes-on : {u : State} {n : ℕ} → s .channel ≡ 0 → isEmpty (queue s channelQueue) ≡ false → n ≡ hd (queue s channelQueue) → u ≡ leaving s channelQueue n
-      → withChannel (requestPlaced u (requestOf n) OnChannel) (requestOf n) ≡ started s
-  unfolding started
+      → withChannel (requestPlaced u (requestOf n) OnChannel) (requestOf n) ≡ channelFilled s
+  unfolding channelFilled
   goes-on z f e l = rw (eq-eqb _ _ z, f, l, e)
 
 -- whoever is in the channel queue is a request block

@@ -13,9 +13,9 @@ use Rattle.tables.specs.State.{State, taskAt, read}
 use Rattle.tables.specs.Held.{Shows, Fit, Held, Loose}
 use Rattle.tables.proofs.Held.{held}
 use Rattle.meaning.specs.Ready.{madeReady}
-use Rattle.meaning.specs.Channel.{started}
+use Rattle.meaning.specs.Channel.{channelFilled}
 use Rattle.meaning.specs.Finish.{freedRequest, pending, finished}
-use Rattle.meaning.specs.Services.{transferred}
+use Rattle.meaning.specs.Services.{ioDone}
 use Rattle.lawful.specs.Shape.{InHand}
 use Rattle.lawful.specs.Resting.{Lawful}
 use Rattle.lawful.proofs.Truth.{both}
@@ -34,16 +34,16 @@ module _ (s : State) where
   abbrev was-last : Bool
   was-last = eqb (taskAt s (owner s) .place) Ending && not (pending (off s) (owner s))
 
-  pub for-checker : (c : Call) → waits ≡ true → transferred s c .state ≡ started (madeReady (freedRequest (off s) (s .channel)) (owner s))
-  unfolding transferred
+  pub for-checker : (c : Call) → waits ≡ true → ioDone s c .state ≡ channelFilled (madeReady (freedRequest (off s) (s .channel)) (owner s))
+  unfolding ioDone
   for-checker c w = rw w
 
-  pub for-ending : (c : Call) → waits ≡ false → was-last ≡ true → transferred s c .state ≡ started (finished (freedRequest (off s) (s .channel)) (owner s))
-  unfolding transferred
+  pub for-ending : (c : Call) → waits ≡ false → was-last ≡ true → ioDone s c .state ≡ channelFilled (finished (freedRequest (off s) (s .channel)) (owner s))
+  unfolding ioDone
   for-ending c w l = rw (w, l)
 
-  pub otherwise : (c : Call) → waits ≡ false → was-last ≡ false → transferred s c .state ≡ started (off s)
-  unfolding transferred
+  pub otherwise : (c : Call) → waits ≡ false → was-last ≡ false → ioDone s c .state ≡ channelFilled (off s)
+  unfolding ioDone
   otherwise c w l = rw (w, l)
 
 -- ---- What the steps ask.

@@ -3,7 +3,7 @@ use mathlib.Core.List.{List}
 use mathlib.Core.Path.{_≡_}
 use Prim.Native.Nat.{ℕ, _≤_, _<_}
 use lib.ListN.{length, getD}
-use Rattle.threads.specs.Threads.{Free}
+use Rattle.threads.specs.Threads.{Outside}
 use Rattle.tables.specs.declared.Tables.{Tables}
 use Rattle.tables.specs.State.{State, channelQueue, node, requestAt, taskAt, read}
 use Rattle.tables.specs.Held.{Held}
@@ -25,4 +25,4 @@ pub record Entering (t : Tables) (r : ℕ) : Type 0 where
   pub owned : Owned (read t)
   pub some : 1 ≤ r
   pub low : r ≤ 16
-  pub free : Free (t .threads) channelQueue (node r)
+  pub free : Outside (t .threads) channelQueue (node r)

@@ -10,5 +10,5 @@ use Rattle.lawful.specs.Shape.{Shape}
 pub record Transferring (s : State) (c : Call) : Type 0 where
   pub shape : Shape s [] 0
   pub runs : s .running ≢ 0
-  pub spare : s .spare ≢ 0
+  pub freeRequests : s .freeRequests ≢ 0
   pub bytes : c .amount ≤ 65535

@@ -7,7 +7,7 @@ ghost use Rattle.tables.specs.Blocks.{Done};
 ghost use Rattle.tables.specs.State.{read, withChannel};
 ghost use Rattle.tables.specs.Held.{Shows};
 ghost use Rattle.meaning.specs.Channel.{requestPlaced};
-ghost use Rattle.meaning.specs.Services.{transferred};
+ghost use Rattle.meaning.specs.Services.{ioDone};
 ghost use Rattle.lawful.specs.Resting.{Lawful};
 use crate::queue;
 use blocks::free;
@@ -32,7 +32,7 @@ fn leave_channel(t: Tables) -> Tables
 // Then the next request goes on the channel.
 pub fn io_done(t: Tables) -> Tables
     requires { ⌜ Sound (t .threads) × Lawful (read t) × (t .channel ≢ 0) ⌝ }
-    ensures { λ u. ⌜ ((c : Call) → Shows u (transferred (read t) c .state)) ⌝ }
+    ensures { λ u. ⌜ ((c : Call) → Shows u (ioDone (read t) c .state)) ⌝ }
 {
     let r = t.channel;
     let q = t.requests[r as usize];

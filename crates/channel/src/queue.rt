@@ -1,7 +1,7 @@
 // The channel and its queue.
 ghost use Rattle.tables.specs.State.{read};
 ghost use Rattle.tables.specs.Held.{Held, Shows};
-ghost use Rattle.meaning.specs.Channel.{queued, started};
+ghost use Rattle.meaning.specs.Channel.{queued, channelFilled};
 ghost use Rattle.channel.specs.Queue.{Owned, Levels, Entering};
 use tables::Tables;
 
@@ -38,7 +38,7 @@ pub fn enter(t: Tables, r: u8) -> Tables
 // An empty channel takes the first of its queue at once; one on the channel is not displaced.
 pub fn next(t: Tables) -> Tables
     requires { ⌜ Held t ⌝ }
-    ensures { λ r. ⌜ Shows r (started (read t)) ⌝ }
+    ensures { λ r. ⌜ Shows r (channelFilled (read t)) ⌝ }
 {
     if t.channel != 0 {
         return t;

@@ -4,7 +4,7 @@ ghost use Rattle.threads.specs.Threads.{Sound};
 ghost use Rattle.tables.specs.State.{read};
 ghost use Rattle.tables.specs.Held.{Shows};
 ghost use Rattle.meaning.specs.Given.{Gives};
-ghost use Rattle.meaning.specs.Services.{asked, transfer};
+ghost use Rattle.meaning.specs.Services.{asked, readOrWrite};
 ghost use Rattle.channel.specs.Transfer.{Transferring};
 use crate::queue;
 use blocks::free;
@@ -19,7 +19,7 @@ fn ask(t: Tables, r: u8, c: Call) -> Tables
     ensures { λ u. ⌜ Shows u (asked (read t) r c) ⌝ }
 {
     let mut u = t;
-    u.spare = words::sets32::dropping(u.spare, r as u32);
+    u.freeRequests = words::sets32::dropping(u.freeRequests, r as u32);
     u.requests[r as usize] = Request {
         place: 1,
         owner: u.running,
@@ -33,9 +33,9 @@ fn ask(t: Tables, r: u8, c: Call) -> Tables
 // The lowest free request block enters the channel queue by the caller's level, then arrival. An empty channel takes the first at once.
 pub fn transfer(t: Tables, c: Call) -> Given
     requires { ⌜ Sound (t .threads) × Transferring (read t) c ⌝ }
-    ensures { λ r. ⌜ Gives r (transfer (read t) c) ⌝ }
+    ensures { λ r. ⌜ Gives r (readOrWrite (read t) c) ⌝ }
 {
-    let r = free::lowest(t.spare);
+    let r = free::lowest(t.freeRequests);
     let taken = ask(t, r, c);
     let entered = queue::enter(taken, r);
     let started = queue::next(entered);

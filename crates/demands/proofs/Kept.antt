@@ -73,9 +73,9 @@ module _ (image : List ℕ) {t : Tables} (reached : Reached image t) where
     unfolding placeOf _among_
     task-runs = lawful .shape .tasks k some low .runs
 
-    pub task-free : bit (t .idle) k ≡ one (taskAt s k .place) Free
+    pub task-free : bit (t .freeTasks) k ≡ one (taskAt s k .place) Free
     unfolding placeOf _among_
-    task-free = lawful .shape .tasks k some low .idle
+    task-free = lawful .shape .tasks k some low .freeTasks
 
   -- "and request block is in exactly one place": in the channel queue where it is queued, in no other queue, on the channel or not, free or not
   module _ (r : ℕ) (some : 1 ≤ r) (low : r ≤ 16) where
@@ -88,8 +88,8 @@ module _ (image : List ℕ) {t : Tables} (reached : Reached image t) where
     pub request-on-channel : one (t .channel) r ≡ one (requestAt s r .place) OnChannel
     request-on-channel = lawful .shape .requests r some low .runs
 
-    pub request-free : bit (t .spare) r ≡ one (requestAt s r .place) Free
-    request-free = lawful .shape .requests r some low .spare
+    pub request-free : bit (t .freeRequests) r ≡ one (requestAt s r .place) Free
+    request-free = lawful .shape .requests r some low .freeRequests
 
   -- ---- "its threads agreeing forward and back": where z is behind y in a queue, y's forward pointer is z and z's back pointer is y; the first has none before it,
   -- the last none behind it

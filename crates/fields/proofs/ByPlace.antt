@@ -61,13 +61,13 @@ module _ (units defined on : ℕ) (own some : Bool) (x : Task) where
   abbrev asked : Bool
   asked = ownRight units x && waiterRight defined on x && pendingRight own some x
 
-  abbrev idle : Bool
-  idle = eqb (x .count) 0 && eqb (x .events) 0 && eqb (x .time) 0 && eqb (x .request) 0
+  abbrev unasked : Bool
+  unasked = eqb (x .count) 0 && eqb (x .events) 0 && eqb (x .time) 0 && eqb (x .request) 0
 
   abbrev needs : Bool
   needs = ltb 0 units && eqb (x .core) 0
 
-  pub in-core : {b : Bool} → b ≡ idle → x .place ≡ 3 → (b && needs) ≡ asked
+  pub in-core : {b : Bool} → b ≡ unasked → x .place ≡ 3 → (b && needs) ≡ asked
   unfolding waiterRight
   in-core i e = rw (i, e) (simp known (simp flat))
 
@@ -84,12 +84,12 @@ module _ (units defined on : ℕ) (own some : Bool) (x : Task) where
   unfolding waiterRight
   in-check e = rw e (simp known (simp flat))
 
-  pub ending : {b : Bool} → b ≡ idle → x .place ≡ 8 → (b && not needs && some) ≡ asked
+  pub ending : {b : Bool} → b ≡ unasked → x .place ≡ 8 → (b && not needs && some) ≡ asked
   unfolding waiterRight
   ending i e = rw (i, e) (simp known (simp flat))
 
   -- running, ready or in LINK
-  pub elsewhere : {b : Bool} → b ≡ idle → x .place ≢ 3 → x .place ≢ 4 → x .place ≢ 5 → x .place ≢ 7 → x .place ≢ 8
+  pub elsewhere : {b : Bool} → b ≡ unasked → x .place ≢ 3 → x .place ≢ 4 → x .place ≢ 5 → x .place ≢ 7 → x .place ≢ 8
       → (leb (x .place) 8 && b && not needs) ≡ asked
   unfolding waiterRight
   elsewhere i c e t k d =

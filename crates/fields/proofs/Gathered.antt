@@ -10,7 +10,7 @@ use Rattle.words.specs.Words.{_implies_, allOf, someOf, oneTo, standing, has}
 use Rattle.image.specs.declared.Entry.{Entry}
 use Rattle.tables.specs.declared.Tables.{Tables}
 use Rattle.tables.specs.Blocks.{Free, InCheck}
-use Rattle.tables.specs.State.{State, read, node, taskAt, requestAt, poolAt, entryOf, levelOf, unitsOf}
+use Rattle.tables.specs.State.{State, read, node, taskAt, requestAt, poolAt, entryFor, levelOf, unitsOf}
 use Rattle.meaning.specs.Rules.{directoryPasses, blankTask, blankRequest}
 use Rattle.fields.specs.Blocks.{fieldsRight, placeRight, waiterRight, pends, pendingRight, taskPasses, Marked, requestMarked, requestPasses, firstPass}
 use Rattle.fields.proofs.ByPlace.{free-whole}
@@ -18,10 +18,10 @@ use Rattle.fields.proofs.Parts.{all-same}
 
 -- the request blocks, by the marks
 pub requests-marked : (t : Tables) {m : List ℕ} → Marked t m
-    → allOf (requestMarked (t .requests) m (t .idle) (t .spare) (t .channel)) (oneTo 16) ≡ allOf (requestPasses (read t)) (oneTo 16)
+    → allOf (requestMarked (t .requests) m (t .freeTasks) (t .freeRequests) (t .channel)) (oneTo 16) ≡ allOf (requestPasses (read t)) (oneTo 16)
 unfolding requestMarked requestPasses
 requests-marked t {m} e =
-    all-same (requestMarked (t .requests) m (t .idle) (t .spare) (t .channel)) (requestPasses (read t)) 16
+    all-same (requestMarked (t .requests) m (t .freeTasks) (t .freeRequests) (t .channel)) (requestPasses (read t)) 16
     (λ r l h. rw (e .stands (node r) (omega arith)))
 
 module _ (s : State) (k : ℕ) where
@@ -29,17 +29,17 @@ module _ (s : State) (k : ℕ) where
   some = someOf (λ r. pends k (requestAt s r)) (oneTo 16)
 
   pub free-turn : {m : ℕ} {b : Bool} → m ≡ standing k (s .queues) → taskAt s k .place ≡ Free
-      → b ≡ (eqb m 9 && not (eqb (s .running) k) && has (s .idle) k && blankTask (taskAt s k)) → b ≡ taskPasses s k
+      → b ≡ (eqb m 9 && not (eqb (s .running) k) && has (s .freeTasks) k && blankTask (taskAt s k)) → b ≡ taskPasses s k
   unfolding taskPasses
   free-turn stands free e =
       e ∙ rw stands
       (free-whole (s .directory .modules) (s .directory .defined) (s .on) (standing k (s .queues)) (levelOf s k) (unitsOf s k) (eqb (s .running) k)
-      (has (s .idle) k) (pends k (requestAt s (taskAt s k .request))) some (taskAt s k) free)
+      (has (s .freeTasks) k) (pends k (requestAt s (taskAt s k .request))) some (taskAt s k) free)
 
-  pub used-turn : (own : Bool) {m : ℕ} {e : Entry} {owns b : Bool} → m ≡ standing k (s .queues) → e ≡ entryOf s k
+  pub used-turn : (own : Bool) {m : ℕ} {e : Entry} {owns b : Bool} → m ≡ standing k (s .queues) → e ≡ entryFor s k
       → (eqb (taskAt s k .place) InCheck implies own) ≡ (eqb (taskAt s k .place) InCheck implies pends k (requestAt s (taskAt s k .request)))
       → owns ≡ some
-      → b ≡ (fieldsRight (s .directory .modules) (e .units) (taskAt s k) && placeRight m (e .level) (eqb (s .running) k) (has (s .idle) k) (taskAt s k)
+      → b ≡ (fieldsRight (s .directory .modules) (e .units) (taskAt s k) && placeRight m (e .level) (eqb (s .running) k) (has (s .freeTasks) k) (taskAt s k)
       && waiterRight (s .directory .defined) (s .on) (taskAt s k) && pendingRight own owns (taskAt s k))
       → b ≡ taskPasses s k
   unfolding taskPasses
@@ -47,9 +47,9 @@ module _ (s : State) (k : ℕ) where
 
 module _ (s : State) where
   -- the whole of the first pass
-  pub first-whole : {d i p x q rs ts : Bool} → d ≡ directoryPasses (s .directory) → i ≡ has (s .idle) 0 → p ≡ has (s .spare) 0 → x ≡ blankTask (taskAt s 0)
+  pub first-whole : {d i p x q rs ts : Bool} → d ≡ directoryPasses (s .directory) → i ≡ has (s .freeTasks) 0 → p ≡ has (s .freeRequests) 0 → x ≡ blankTask (taskAt s 0)
       → q ≡ blankRequest (requestAt s 0) → rs ≡ allOf (requestPasses s) (oneTo 16) → ts ≡ allOf (taskPasses s) (oneTo 24)
       → (d && (leb (s .running) 24 && leb (s .channel) 16) && eqb (bitAnd (s .on) (s .directory .defined)) (s .on)
-      && (ltb (s .idle) 33554432 && not i && ltb (s .spare) 131072 && not p) && (x && q && eqb (poolAt s 0) 0) && (rs && ts)) ≡ firstPass s
+      && (ltb (s .freeTasks) 33554432 && not i && ltb (s .freeRequests) 131072 && not p) && (x && q && eqb (poolAt s 0) 0) && (rs && ts)) ≡ firstPass s
   unfolding firstPass
   first-whole a b c e f g h = rw (a, b, c, e, f, g, h)

@@ -6,7 +6,7 @@ use lib.Dec.{eqb, leb, ltb}
 use Rattle.words.specs.Words.{if_then_else_, oneTo, allOf, standing, has}
 use Rattle.tables.specs.Blocks.{Free, Running, Queued, OnChannel}
 use Rattle.tables.specs.State.{State, channelQueue, node, taskAt, requestAt, poolAt, levelOf, unitsOf}
-use Rattle.meaning.specs.Rules.{taskInRange, requestInRange, inRange, queueFor, tasksInPlace, requestsInPlace, freeSets, blankTask, blankRequest, clearTask, clearRequest, clear}
+use Rattle.meaning.specs.Rules.{taskInRange, requestInRange, inRange, queueFor, tasksInPlace, requestsInPlace, freeSets, blankTask, blankRequest, clearTask, clearRequest, fieldsClear}
 use Rattle.lawful.proofs.Truth.{and-of, both}
 use Rattle.lawful.proofs.Tests.{of-all, to-top, all-of, one-to}
 use Rattle.pointers.proofs.Tests.{same-test}
@@ -39,10 +39,10 @@ module _ (s : State) (k : ℕ) where
       && Bool·beq (eqb (s .channel) k) (eqb (requestAt s k .place) OnChannel)
 
   abbrev pub taskFree : Bool
-  taskFree = Bool·beq (has (s .idle) k) (eqb (taskAt s k .place) Free)
+  taskFree = Bool·beq (has (s .freeTasks) k) (eqb (taskAt s k .place) Free)
 
   abbrev pub requestFree : Bool
-  requestFree = Bool·beq (has (s .spare) k) (eqb (requestAt s k .place) Free)
+  requestFree = Bool·beq (has (s .freeRequests) k) (eqb (requestAt s k .place) Free)
 
   abbrev pub taskClear : Bool
   taskClear = clearTask (unitsOf s k) (taskAt s k)
@@ -61,10 +61,10 @@ pub record Ranges (s : State) : Type 0 where
 pub record FreeSets (s : State) : Type 0 where
   pub tasks : Each (taskFree s) 24
   pub requests : Each (requestFree s) 16
-  pub idle : ltb (s .idle) (2 ^ 25) ≡ true
-  pub idle-none : not (has (s .idle) 0) ≡ true
-  pub spare : ltb (s .spare) (2 ^ 17) ≡ true
-  pub spare-none : not (has (s .spare) 0) ≡ true
+  pub freeTasks : ltb (s .freeTasks) (2 ^ 25) ≡ true
+  pub freeTasks-none : not (has (s .freeTasks) 0) ≡ true
+  pub freeRequests : ltb (s .freeRequests) (2 ^ 17) ≡ true
+  pub freeRequests-none : not (has (s .freeRequests) 0) ≡ true
 
 pub record Clear (s : State) : Type 0 where
   pub tasks : Each (taskClear s) 24
@@ -108,10 +108,10 @@ module _ (s : State) where
   free-sets e =
       let ts = allOf (taskFree s) (oneTo 24) in
       let rs = allOf (requestFree s) (oneTo 16) in
-      let i = ltb (s .idle) (2 ^ 25) in
-      let j = not (has (s .idle) 0) in
-      let p = ltb (s .spare) (2 ^ 17) in
-      let a = both (ts && rs && i && j && p) (not (has (s .spare) 0)) e in
+      let i = ltb (s .freeTasks) (2 ^ 25) in
+      let j = not (has (s .freeTasks) 0) in
+      let p = ltb (s .freeRequests) (2 ^ 17) in
+      let a = both (ts && rs && i && j && p) (not (has (s .freeRequests) 0)) e in
       let b = both (ts && rs && i && j) p (a .0) in
       let c = both (ts && rs && i) j (b .0) in
       let d = both (ts && rs) i (c .0) in
@@ -119,10 +119,10 @@ module _ (s : State) where
       record {
         tasks = every (taskFree s) 24 (f .0);
         requests = every (requestFree s) 16 (f .1);
-        idle = d .1;
-        idle-none = c .1;
-        spare = b .1;
-        spare-none = a .1;
+        freeTasks = d .1;
+        freeTasks-none = c .1;
+        freeRequests = b .1;
+        freeRequests-none = a .1;
       }
 
   pub free-sets-hold : FreeSets s → freeSets s ≡ true
@@ -131,11 +131,11 @@ module _ (s : State) where
       and-of _ _
       (and-of _ _
       (and-of _ _
-      (and-of _ _ (and-of _ _ (shown (taskFree s) 24 (f .tasks)) (shown (requestFree s) 16 (f .requests))) (f .idle))
-      (f .idle-none)) (f .spare)) (f .spare-none)
+      (and-of _ _ (and-of _ _ (shown (taskFree s) 24 (f .tasks)) (shown (requestFree s) 16 (f .requests))) (f .freeTasks))
+      (f .freeTasks-none)) (f .freeRequests)) (f .freeRequests-none)
 
-  pub clears : clear s ≡ true → Clear s
-  unfolding clear
+  pub clears : fieldsClear s ≡ true → Clear s
+  unfolding fieldsClear
   clears e =
       let ts = allOf (taskClear s) (oneTo 24) in
       let rs = allOf (requestClear s) (oneTo 16) in
@@ -148,8 +148,8 @@ module _ (s : State) where
       let d = both x q (c .0) in
       record { tasks = every (taskClear s) 24 (b .0); requests = every (requestClear s) 16 (b .1); task = d .0; request = d .1; pool = c .1 }
 
-  pub all-clear : Clear s → clear s ≡ true
-  unfolding clear
+  pub all-clear : Clear s → fieldsClear s ≡ true
+  unfolding fieldsClear
   all-clear c =
       and-of _ _ (and-of _ _ (shown (taskClear s) 24 (c .tasks)) (shown (requestClear s) 16 (c .requests)))
       (and-of _ _ (and-of _ _ (c .task) (c .request)) (c .pool))

@@ -68,7 +68,7 @@ unfoldable pub taskPasses : State → ℕ → Bool
 taskPasses s k =
     let x = taskAt s k in
     fieldsRight (s .directory .modules) (unitsOf s k) x
-    && placeRight (standing k (s .queues)) (levelOf s k) (eqb (s .running) k) (has (s .idle) k) x
+    && placeRight (standing k (s .queues)) (levelOf s k) (eqb (s .running) k) (has (s .freeTasks) k) x
     && waiterRight (s .directory .defined) (s .on) x
     && pendingRight (pends k (requestAt s (x .request))) (someOf (λ r. pends k (requestAt s r)) (oneTo 16)) x
 
@@ -83,22 +83,22 @@ requestRight stands on free used q =
 
 -- the number is that of a used task block, by the set of the free ones
 abbrev pub usedBy : ℕ → ℕ → Bool
-usedBy idle k = leb k 24 && leb 1 k && not (has idle k)
+usedBy freeTasks k = leb k 24 && leb 1 k && not (has freeTasks k)
 
 unfoldable pub requestPasses : State → ℕ → Bool
 requestPasses s r =
     let q = requestAt s r in
-    requestRight (standing (node r) (s .queues)) (eqb (s .channel) r) (has (s .spare) r) (usedBy (s .idle) (q .owner)) q
+    requestRight (standing (node r) (s .queues)) (eqb (s .channel) r) (has (s .freeRequests) r) (usedBy (s .freeTasks) (q .owner)) q
 
 -- the same of the tables' parts that the loop over the request blocks has, the marks among them
 unfoldable pub requestMarked : List Request → List ℕ → ℕ → ℕ → ℕ → ℕ → Bool
-requestMarked requests marks idle spare channel r =
+requestMarked requests marks freeTasks freeRequests channel r =
     let q = getD requests r noRequest in
-    requestRight (getD marks (node r) 0) (eqb channel r) (has spare r) (usedBy idle (q .owner)) q
+    requestRight (getD marks (node r) 0) (eqb channel r) (has freeRequests r) (usedBy freeTasks (q .owner)) q
 
 -- what that loop tells: whether the blocks pass, and the tasks that have a request pending, as a set
-pub record Gathered (requests : List Request) (marks : List ℕ) (idle spare channel : ℕ) (ok : Bool) (owners : ℕ) : Type 0 where
-  pub right : ok ≡ allOf (requestMarked requests marks idle spare channel) (oneTo 16)
+pub record Gathered (requests : List Request) (marks : List ℕ) (freeTasks freeRequests channel : ℕ) (ok : Bool) (owners : ℕ) : Type 0 where
+  pub right : ok ≡ allOf (requestMarked requests marks freeTasks freeRequests channel) (oneTo 16)
   pub some : (k : ℕ) → k ≤ 24 → has owners k ≡ someOf (λ r. pends k (getD requests r noRequest)) (oneTo 16)
 
 -- ---- The first pass: the directory, the numbers of the tables, slot 0, and each block by itself.
@@ -106,6 +106,6 @@ pub record Gathered (requests : List Request) (marks : List ℕ) (idle spare cha
 unfoldable pub firstPass : State → Bool
 firstPass s =
     directoryPasses (s .directory) && (leb (s .running) 24 && leb (s .channel) 16) && eqb (bitAnd (s .on) (s .directory .defined)) (s .on)
-    && (ltb (s .idle) (2 ^ 25) && not (has (s .idle) 0) && ltb (s .spare) (2 ^ 17) && not (has (s .spare) 0))
+    && (ltb (s .freeTasks) (2 ^ 25) && not (has (s .freeTasks) 0) && ltb (s .freeRequests) (2 ^ 17) && not (has (s .freeRequests) 0))
     && (blankTask (taskAt s 0) && blankRequest (requestAt s 0) && eqb (poolAt s 0) 0)
     && (allOf (requestPasses s) (oneTo 16) && allOf (taskPasses s) (oneTo 24))

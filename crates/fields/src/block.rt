@@ -161,13 +161,13 @@ fn request_in_range(q: Request) -> bool
 }
 
 // The number is that of a used task block, by the set of the free ones.
-fn used(idle: u32, k: u8) -> bool
-    ensures { λ r. ⌜ r ≡ usedBy idle k ⌝ }
+fn used(freeTasks: u32, k: u8) -> bool
+    ensures { λ r. ⌜ r ≡ usedBy freeTasks k ⌝ }
 {
     if 24 < k {
         return false;
     }
-    (1 <= k) & !((idle >> k) % 2 == 1)
+    (1 <= k) & !((freeTasks >> k) % 2 == 1)
 }
 
 // The channel queue for a queued request, and no queue for any other.
@@ -178,8 +178,8 @@ fn request_queue(place: u8) -> u8
 }
 
 // A request block is zero and free, or its fields are in range, it stands where its place says, and its owner is a used task.
-pub fn request_right(stands: u8, on: bool, free: bool, idle: u32, q: Request) -> bool
-    ensures { λ r. ⌜ r ≡ requestRight stands on free (usedBy idle (q .owner)) q ⌝ }
+pub fn request_right(stands: u8, on: bool, free: bool, freeTasks: u32, q: Request) -> bool
+    ensures { λ r. ⌜ r ≡ requestRight stands on free (usedBy freeTasks (q .owner)) q ⌝ }
 {
     if q.place == 0 {
         return (stands == 9) & !on & free & blank_request(q);
@@ -188,7 +188,7 @@ pub fn request_right(stands: u8, on: bool, free: bool, idle: u32, q: Request) ->
         & (stands == request_queue(q.place))
         & (on == (q.place == 2))
         & !free
-        & used(idle, q.owner)
+        & used(freeTasks, q.owner)
 }
 
 // The request is the task k's, and pending.

@@ -26,15 +26,15 @@ pub fn first_pass(t: Tables, marks: [u8; 41]) -> bool
     ensures { λ r. ⌜ r ≡ firstPass (read t) ⌝ }
 {
     let requests = t.requests;
-    let asked = turns::requests(requests, marks, t.idle, t.spare, t.channel);
+    let asked = turns::requests(requests, marks, t.freeTasks, t.freeRequests, t.channel);
     let d = t.directory;
     directory_passes(d)
         & ((t.running <= 24) & (t.channel <= 16))
         & (t.on & d.defined == t.on)
-        & ((t.idle < 33554432)
-            & !sets32::has(t.idle, 0)
-            & (t.spare < 131072)
-            & !sets32::has(t.spare, 0))
+        & ((t.freeTasks < 33554432)
+            & !sets32::has(t.freeTasks, 0)
+            & (t.freeRequests < 131072)
+            & !sets32::has(t.freeRequests, 0))
         & (block::blank_task(t.tasks[0]) & block::blank_request(t.requests[0]) & (t.pools[0] == 0))
         & (asked.right & turns::tasks(t, marks, asked.owners))
 }

@@ -21,11 +21,11 @@ pub struct Asked {
 pub fn requests(
     requests: [Request; 17],
     marks: [u8; 41],
-    idle: u32,
-    spare: u32,
+    freeTasks: u32,
+    freeRequests: u32,
     channel: u8,
 ) -> Asked
-    ensures { λ r. ⌜ Gathered requests marks idle spare channel (r .right) (r .owners) ⌝ }
+    ensures { λ r. ⌜ Gathered requests marks freeTasks freeRequests channel (r .right) (r .owners) ⌝ }
 {
     let mut right = true;
     let mut owners: u32 = 0;
@@ -33,8 +33,9 @@ pub fn requests(
     while r < 16 {
         r += 1;
         let q = requests[r as usize];
-        let free = (spare >> r) % 2 == 1;
-        right = right & block::request_right(marks[r as usize + 24], channel == r, free, idle, q);
+        let free = (freeRequests >> r) % 2 == 1;
+        right = right
+            & block::request_right(marks[r as usize + 24], channel == r, free, freeTasks, q);
         owners = block::with_owner(owners, q);
     }
     Asked {
@@ -68,7 +69,7 @@ pub fn tasks(t: Tables, marks: [u8; 41], owners: u32) -> bool
         let x = t.tasks[k as usize];
         let stands = marks[k as usize];
         let runs = t.running == k;
-        let free = (t.idle >> k) % 2 == 1;
+        let free = (t.freeTasks >> k) % 2 == 1;
         if x.place == 0 {
             right = right & block::free_right(stands, runs, free, x);
         } else {

@@ -9,7 +9,7 @@ use borrow.Author.Tests.{eqb-true, eq-eqb}
 use lib.ListN.{getD}
 use Rattle.words.specs.Words.{below, allOf}
 use Rattle.words.proofs.Lists.{and-left, and-right, all-at, all-shown}
-use Rattle.image.specs.Block.{zeroAt, clear}
+use Rattle.image.specs.Block.{zeroAt, fillersZero}
 
 -- bytes 3 to 7, the fourth of each entry, and bytes 272 to 509 are zero
 pub record Clear (b : List ℕ) : Type 0 where
@@ -29,8 +29,8 @@ module _ (b : List ℕ) where
   zeros-shown : (from step n : ℕ) → ((i : ℕ) → i < n → getD b (from + step * i) 0 ≡ 0) → zeros from step n ≡ true
   zeros-shown from step n h = all-shown (λ (k : ℕ). zeroAt b (from + step * k)) n (λ i l. eq-eqb (getD b (from + step * i) 0) 0 (h i l))
 
-  pub clear-means : clear b ≡ true → Clear b
-  unfolding clear
+  pub clear-means : fillersZero b ≡ true → Clear b
+  unfolding fillersZero
   clear-means e =
       let front = and-left (zeros 3 1 5 && zeros 19 8 32) (zeros 272 1 238) e in
       record {
@@ -39,8 +39,8 @@ module _ (b : List ℕ) where
         rest = λ j l. zero-at 272 1 238 (and-right (zeros 3 1 5 && zeros 19 8 32) (zeros 272 1 238) e) j (272 + j) l (omega arith);
       }
 
-  pub clear-shown : Clear b → clear b ≡ true
-  unfolding clear
+  pub clear-shown : Clear b → fillersZero b ≡ true
+  unfolding fillersZero
   clear-shown c =
       rw (
         zeros-shown 3 1 5 (λ j l. let p : 3 + j ≡ 3 + 1 * j = omega arith in rw p at (c .spare j l)),

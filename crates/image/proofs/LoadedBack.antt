@@ -13,9 +13,9 @@ use Rattle.words.proofs.Lists.{listed-at, listed-of}
 use Rattle.words.proofs.Numbers.{number-digits}
 use Rattle.image.specs.declared.Entry.{Entry}
 use Rattle.image.specs.declared.Directory.{Directory}
-use Rattle.image.specs.Block.{storedCheck, checkOf, clear}
+use Rattle.image.specs.Block.{storedCheck, checkOf, fillersZero}
 use Rattle.image.specs.Directory.{noEntry, entryAt, directoryRows}
-use Rattle.image.specs.Load.{entryOf, directoryOf}
+use Rattle.image.specs.Load.{entryFrom, directoryOf}
 use Rattle.image.specs.Write.{byteOf, bodyOf, imageOf}
 use Rattle.image.proofs.Clear.{clear-shown}
 use Rattle.image.proofs.Loads.{Good}
@@ -25,8 +25,8 @@ use Rattle.image.proofs.Writes.{check-take, body-length, image-length}
 -- ---- What bytes that follow the table spell.
 
 module _ (b : List ℕ) where
-  entry-spelt : (m : ℕ) (e : Entry) → EntryTable (λ j. getD b (16 + 8 * m + j) 0) e → e .point < 2 ^ 32 → entryOf b m ≡ e
-  unfolding entryOf
+  entry-spelt : (m : ℕ) (e : Entry) → EntryTable (λ j. getD b (16 + 8 * m + j) 0) e → e .point < 2 ^ 32 → entryFrom b m ≡ e
+  unfolding entryFrom
   entry-spelt m e t fits =
       let first : 16 + 8 * m ≡ 16 + 8 * m + 0 = omega arith in
       let fourth : (j : ℕ) → 16 + 8 * m + 4 + j ≡ 16 + 8 * m + (4 + j) = λ j. omega arith in
@@ -39,10 +39,10 @@ module _ (b : List ℕ) where
     unfolding directoryOf
     directory-spelt count defined points =
         let events = number-digits b (d .defined) 8 8 (t .defined) defined in
-        let entries = listed-of (entryOf b) (d .entries) 32 noEntry count (λ m l. entry-spelt m (entryAt d m) (t .entries m l) (points m)) in
+        let entries = listed-of (entryFrom b) (d .entries) 32 noEntry count (λ m l. entry-spelt m (entryAt d m) (t .entries m l) (points m)) in
         rw (t .modules, t .every, events, entries)
 
-    table-clear : clear b ≡ true
+    table-clear : fillersZero b ≡ true
     table-clear = clear-shown b (record { spare = t .spare; entry = λ m l. t .entries m l .spare; rest = t .rest })
 
 -- ---- The image of a directory.

@@ -14,14 +14,14 @@ use Rattle.words.proofs.Rows.{Numbered, none, numbered, row-past, row-here, row
 use Rattle.image.specs.declared.Outcome.the-variants.{Accepted}
 use Rattle.image.specs.declared.Directory.{Directory}
 use Rattle.image.specs.declared.Loaded.{Loaded}
-use Rattle.image.specs.Block.{checkOf, storedCheck, clear}
+use Rattle.image.specs.Block.{checkOf, storedCheck, fillersZero}
 use Rattle.image.specs.Directory.{directoryRows}
 use Rattle.image.specs.Answer.{refusalOf}
 use Rattle.image.specs.Load.{directoryOf, blockRows, loadRows, refusedLoad, loadOf}
 
 -- the rows from the fourth on, and the last of all
 abbrev lastRow : List ℕ → List Row
-lastRow b = 7 when (not (clear b)) ∷ []
+lastRow b = 7 when (not (fillersZero b)) ∷ []
 
 abbrev laterRows : List ℕ → List Row
 laterRows b = directoryRows (directoryOf b) ++ lastRow b
@@ -55,12 +55,12 @@ module _ (b : List ℕ) where
   last : firstOf (blockRows b) ≡ 0 → firstOf (directoryRows (directoryOf b)) ≡ 0 → firstOf (loadRows b) ≡ firstOf (lastRow b)
   last w e = later w ∙ first-past (directory-numbered (directoryOf b)) (lastRow b) e
 
-  pub refuses-7 : firstOf (blockRows b) ≡ 0 → firstOf (directoryRows (directoryOf b)) ≡ 0 → clear b ≡ false → 7 ≡ firstOf (loadRows b)
-  refuses-7 w e h = sym (last w e ∙ row-here 7 (clear b) [] h)
+  pub refuses-7 : firstOf (blockRows b) ≡ 0 → firstOf (directoryRows (directoryOf b)) ≡ 0 → fillersZero b ≡ false → 7 ≡ firstOf (loadRows b)
+  refuses-7 w e h = sym (last w e ∙ row-here 7 (fillersZero b) [] h)
 
-  pub refuses-none : firstOf (blockRows b) ≡ 0 → firstOf (directoryRows (directoryOf b)) ≡ 0 → clear b ≡ true → 0 ≡ firstOf (loadRows b)
+  pub refuses-none : firstOf (blockRows b) ≡ 0 → firstOf (directoryRows (directoryOf b)) ≡ 0 → fillersZero b ≡ true → 0 ≡ firstOf (loadRows b)
   unfolding firstOf
-  refuses-none w e h = sym (last w e ∙ row-past 7 (clear b) [] h)
+  refuses-none w e h = sym (last w e ∙ row-past 7 (fillersZero b) [] h)
 
 -- An image that no row refuses.
 pub record Good (b : List ℕ) : Type 0 where
@@ -68,7 +68,7 @@ pub record Good (b : List ℕ) : Type 0 where
   pub checked : storedCheck b ≡ checkOf b
   pub formed : getD b 0 0 ≡ 1
   pub sound : firstOf (directoryRows (directoryOf b)) ≡ 0
-  pub clears : clear b ≡ true
+  pub clears : fillersZero b ≡ true
 
 pub good : (b : List ℕ) → firstOf (loadRows b) ≡ 0 → Good b
 unfolding loadRows blockRows
@@ -79,7 +79,7 @@ good b e =
     let three = row-passed 3 (eqb (getD b 0 0) 1) _ (omega arith) (two .1) in
     let rest = sym (later b w) ∙ e in
     let d = first-none (directory-numbered (directoryOf b)) (lastRow b) rest in
-    let seven = row-passed 7 (clear b) [] (omega arith) (sym (last b w d) ∙ e) in
+    let seven = row-passed 7 (fillersZero b) [] (omega arith) (sym (last b w d) ∙ e) in
     record {
       long = block-long b w;
       checked = eqb-true _ _ (two .0);

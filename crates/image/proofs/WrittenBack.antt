@@ -12,24 +12,24 @@ use Rattle.words.proofs.Lists.{listed-at, listed-of}
 use Rattle.words.proofs.Numbers.{digit-number}
 use Rattle.image.specs.Block.{checkOf}
 use Rattle.image.specs.Directory.{noEntry, entryAt}
-use Rattle.image.specs.Load.{entryOf, directoryOf}
+use Rattle.image.specs.Load.{entryFrom, directoryOf}
 use Rattle.image.specs.Write.{byteOf, bodyOf, imageOf}
 use Rattle.image.proofs.Clear.{clear-means}
 use Rattle.image.proofs.Loads.{Good}
 use Rattle.image.proofs.Table.{EntryTable, Table, table-of, table-only}
 use Rattle.image.proofs.Writes.{check-take}
 
-entry-at : (b : List ℕ) (m : ℕ) → m < 32 → entryAt (directoryOf b) m ≡ entryOf b m
+entry-at : (b : List ℕ) (m : ℕ) → m < 32 → entryAt (directoryOf b) m ≡ entryFrom b m
 unfolding directoryOf
-entry-at b m l = listed-at (entryOf b) 32 m noEntry l
+entry-at b m l = listed-at (entryFrom b) 32 m noEntry l
 
 module _ (b : List ℕ) (bytes : (k : ℕ) → getD b k 0 < 256) where
   -- the same byte, by two names of its place
   place : (i j : ℕ) → i ≡ j → getD b i 0 ≡ getD b j 0
   place i j e = ap (λ (k : ℕ). getD b k 0) e
 
-  entry-read : (m : ℕ) → getD b (16 + 8 * m + 3) 0 ≡ 0 → EntryTable (λ j. getD b (16 + 8 * m + j) 0) (entryOf b m)
-  unfolding entryOf
+  entry-read : (m : ℕ) → getD b (16 + 8 * m + 3) 0 ≡ 0 → EntryTable (λ j. getD b (16 + 8 * m + j) 0) (entryFrom b m)
+  unfolding entryFrom
   entry-read m spare =
       record {
         level = place (16 + 8 * m + 0) (16 + 8 * m) (omega arith);

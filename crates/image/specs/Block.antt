@@ -25,7 +25,7 @@ abbrev pub zeroAt : List ℕ → ℕ → Bool
 zeroAt b i = eqb (getD b i 0) 0
 
 -- "3-7 | zero", the fourth byte of each entry, "level, core units 0 to 64, flags .., zero", and "272-509 | zero"
-unfoldable pub clear : List ℕ → Bool
-clear b =
+unfoldable pub fillersZero : List ℕ → Bool
+fillersZero b =
     allOf (λ i. zeroAt b (3 + 1 * i)) (below 5) && allOf (λ i. zeroAt b (19 + 8 * i)) (below 32)
     && allOf (λ i. zeroAt b (272 + 1 * i)) (below 238)

@@ -5,7 +5,7 @@ ghost use lib.ListN.{length};
 ghost use Rattle.words.specs.Words.{below, allOf};
 ghost use Rattle.words.specs.Rows.{firstOf};
 ghost use Rattle.image.specs.Load.{blockRows};
-ghost use Rattle.image.specs.Block.{checkOf, zeroAt, clear};
+ghost use Rattle.image.specs.Block.{checkOf, zeroAt, fillersZero};
 
 // What byte i adds to the sum: i + 1 times the byte.
 fn weight(i: usize, byte: u8) -> u32
@@ -46,7 +46,7 @@ fn zeros(bytes: &[u8], from: usize, step: usize, count: usize) -> bool
 // Whether the bytes that no field has are zero.
 pub fn clear(bytes: &[u8]) -> bool
     requires { ⌜ 512 ≤ length (now bytes) ⌝ }
-    ensures { λ r. ⌜ r ≡ clear (now (bytes .entry)) ⌝ }
+    ensures { λ r. ⌜ r ≡ fillersZero (now (bytes .entry)) ⌝ }
 {
     zeros(bytes, 3, 1, 5) & zeros(bytes, 19, 8, 32) & zeros(bytes, 272, 1, 238)
 }

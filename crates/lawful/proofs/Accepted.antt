@@ -66,8 +66,8 @@ module _ (s : State) (c : Call) (e : firstOf (callRows s c) ≡ 0) where
       × ((c .code among (7 ∷ 8 ∷ []) && (ltb 3 (c .kind) || eqb (c .code) 8 && eqb (c .kind) 0 || eqb (c .kind) 1 && undefinedIn s (c .events))) ≡ false)
       × ((c .code among (7 ∷ 8 ∷ []) && eqb (c .kind) 1 && (eqb (c .value) 0 || ltb (size (c .events)) (c .value))) ≡ false)
       × ((c .code among (7 ∷ 8 ∷ []) && eqb (c .kind) 3 && ltb clockEnd (s .clock + c .amount)) ≡ false)
-      × ((c .code among (5 ∷ 7 ∷ 35 ∷ []) && eqb (s .idle) 0) ≡ false)
-      × ((c .code among (13 ∷ 14 ∷ []) && eqb (s .spare) 0) ≡ false)
+      × ((c .code among (5 ∷ 7 ∷ 35 ∷ []) && eqb (s .freeTasks) 0) ≡ false)
+      × ((c .code among (13 ∷ 14 ∷ []) && eqb (s .freeRequests) 0) ≡ false)
       × ((eqb (c .code) 33 && eqb (s .channel) 0) ≡ false)
       × ((eqb (c .code) 32 && eqb (s .clock) clockEnd) ≡ false)
   unfolding callRows
@@ -95,7 +95,7 @@ module _ (s : State) (c : Call) (e : firstOf (callRows s c) ≡ 0) where
         known = not-false _ (rows .0);
         running = λ z. eqb-false _ _ (and-fails (needsTask (c .code)) (eqb (s .running) 0) (rows .1) z);
         program = λ z. leb-false _ _ (and-fails _ (leb (s .directory .modules) (c .number)) (rows .2) z);
-        block = λ z. eqb-false _ _ (and-fails _ (eqb (s .idle) 0) (rows .10) z);
+        block = λ z. eqb-false _ _ (and-fails _ (eqb (s .freeTasks) 0) (rows .10) z);
         event = λ z.
             let a = and-fails _ (undefined s (c .number)) (rows .3) z in
             let b = not (has (s .directory .defined) (c .number)) in
@@ -118,7 +118,7 @@ module _ (s : State) (c : Call) (e : firstOf (callRows s c) ≡ 0) where
             let n = eqb-false (c .amount) 0 (or-left (eqb (c .amount) 0) (ltb 65535 (c .amount)) b) in
             let h : 1 ≤ c .amount = omega (arith, n) in
             (h, ltb-false _ _ (or-right (eqb (c .amount) 0) (ltb 65535 (c .amount)) b));
-        spare = λ z. eqb-false _ _ (and-fails _ (eqb (s .spare) 0) (rows .11) z);
+        freeRequests = λ z. eqb-false _ _ (and-fails _ (eqb (s .freeRequests) 0) (rows .11) z);
         held = λ z.
             let a = not-false _ (and-fails (eqb (c .code) 15) (not (held s (c .number))) (rows .6) (eq-eqb _ _ z)) in
             let b = both (not (eqb (requestAt s (c .number) .place) 0)) (eqb (requestAt s (c .number) .owner) (s .running)) a in

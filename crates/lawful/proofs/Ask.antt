@@ -25,7 +25,7 @@ use Rattle.lawful.proofs.Free.{added-same, added-other}
 
 module _ (s : State) (r : ℕ) (x : Request) where
   abbrev pub asking : ℕ → ℕ → List (List ℕ) → State
-  asking c f l = state s.directory s.clock s.on s.running c s.idle f s.pools s.tasks (set (s .requests) r x) l
+  asking c f l = state s.directory s.clock s.on s.running c s.freeTasks f s.pools s.tasks (set (s .requests) r x) l
 
   -- what is asked of the new block x, of the number c on the channel, of the spare blocks f and of the queues l
   pub record Asks (c f : ℕ) (l : List (List ℕ)) (h : List ℕ) : Type 0 where
@@ -42,9 +42,9 @@ module _ (s : State) (r : ℕ) (x : Request) where
     pub bound : c ≤ 16
     pub runs : one c r ≡ one (x .place) OnChannel
     pub run-others : (y : ℕ) → 1 ≤ y → y ≢ r → one c y ≡ one (s .channel) y
-    pub spares : f < 2 ^ 17
-    pub spare : bit f r ≡ one (x .place) 0
-    pub spare-others : (y : ℕ) → y ≢ r → bit f y ≡ bit (s .spare) y
+    pub requestsFree : f < 2 ^ 17
+    pub freeRequests : bit f r ≡ one (x .place) 0
+    pub freeRequests-others : (y : ℕ) → y ≢ r → bit f y ≡ bit (s .freeRequests) y
     pub checks : (y : ℕ) → 1 ≤ y → y ≤ 24 → placeOf s h y ≡ InCheck → Pending (set (s .requests) r x) y (taskAt s y .request)
     pub ends : (y : ℕ) → 1 ≤ y → y ≤ 24 → placeOf s h y ≡ Ending → (i : ℕ) × Pending (set (s .requests) r x) y i
     pub levelled : upBy (channelLevel (asking c f l)) (getD l channelQueue []) ≡ true
@@ -71,7 +71,7 @@ module _ (s : State) (r : ℕ) (x : Request) where
           others = λ q n. ap (count (node r)) (u .same q (λ i. omega (arith, i, n))) ∙ g .requests r (u .some) (u .low) .others q n;
           queued = rw ask-same (u .own);
           runs = rw ask-same (u .runs);
-          spare = rw ask-same (u .spare);
+          freeRequests = rw ask-same (u .freeRequests);
         }))
         (λ z. let o = ask-other y (z .1) in let w = g .requests y a b in let d : node y ≢ node r = λ i. z .1 (omega (arith, i)) in record {
           kind = rw o (w .kind);
@@ -81,7 +81,7 @@ module _ (s : State) (r : ℕ) (x : Request) where
           others = λ q n. counted q (node y) d ∙ w .others q n;
           queued = rw o (u .others (node y) d ∙ w .queued);
           runs = rw o (u .run-others y a (z .1) ∙ w .runs);
-          spare = rw o (u .spare-others y (z .1) ∙ w .spare);
+          freeRequests = rw o (u .freeRequests-others y (z .1) ∙ w .freeRequests);
         })
         (tested y r)
 
@@ -95,10 +95,10 @@ module _ (s : State) (r : ℕ) (x : Request) where
             block = b .block;
             request = ask-other 0 (λ z. omega (arith, z, u .some)) ∙ b .request;
             pool = b .pool;
-            idle = b .idle;
-            idle-none = b .idle-none;
-            spare = u .spares;
-            spare-none = u .spare-others 0 (λ z. omega (arith, z, u .some)) ∙ b .spare-none;
+            freeTasks = b .freeTasks;
+            freeTasks-none = b .freeTasks-none;
+            freeRequests = u .requestsFree;
+            freeRequests-none = u .freeRequests-others 0 (λ z. omega (arith, z, u .some)) ∙ b .freeRequests-none;
             running = b .running;
             channel = u .bound;
             on = b .on;
@@ -107,7 +107,7 @@ module _ (s : State) (r : ℕ) (x : Request) where
             fields = w .fields;
             queued = λ q n. counted q y (λ z. omega (arith, z, b, u .some)) ∙ w .queued q n;
             runs = w .runs;
-            idle = w .idle;
+            freeTasks = w .freeTasks;
             checks = u .checks y a b;
             ends = u .ends y a b;
           };
@@ -150,9 +150,9 @@ module _ {s : State} {h : List ℕ} {e : ℕ} (g : Shape s h e) (r : ℕ) (some 
         bound = g .blank .channel;
         runs = w .runs ∙ one-other _ OnChannel (λ z. omega (arith, z, d)) ∙ sym (one-other 0 OnChannel (λ z. omega (arith, z)));
         run-others = λ y a n. refl;
-        spares = adding-low 17 (s .spare) r (g .blank .spare) (omega arith);
-        spare = added-same (s .spare) r ∙ sym (one-same 0 0 refl);
-        spare-others = λ y n. added-other (s .spare) r y n;
+        requestsFree = adding-low 17 (s .freeRequests) r (g .blank .freeRequests) (omega arith);
+        freeRequests = added-same (s .freeRequests) r ∙ sym (one-same 0 0 refl);
+        freeRequests-others = λ y n. added-other (s .freeRequests) r y n;
         checks = λ y a b z. let p = g .tasks y a b .checks z in pending-kept r noRequest (not-r p) p;
         ends = λ y a b z. let p = g .tasks y a b .ends z in (p .0, pending-kept r noRequest (not-r (p .1)) (p .1));
         levelled =

@@ -15,7 +15,7 @@ use Rattle.tables.specs.Blocks.{noTask}
 use Rattle.calls.specs.declared.Call.{Call}
 use Rattle.meaning.specs.Conditions.{enough, holds, dueOf, waiting, awaitsEvents, awaitsTime}
 use Rattle.meaning.specs.Ready.{madeReady}
-use Rattle.meaning.specs.Services.{created, start, schedule, wait, testEvent}
+use Rattle.meaning.specs.Services.{created, operatorStart, schedule, wait, testEvent}
 use Rattle.lawful.specs.Shape.{Shape, InHand}
 use Rattle.lawful.specs.Resting.{Rest, Lawful, Settled}
 use Rattle.lawful.specs.Accepts.{Condition}
@@ -36,17 +36,17 @@ unfolding testEvent
 test-event-keeps c g = settled (g .shape) (g .rest)
 
 -- ---- A new task.
-module _ {s : State} (g : Lawful s) (m : ℕ) (known : m < s .directory .modules) (some : s .idle ≢ 0) where
+module _ {s : State} (g : Lawful s) (m : ℕ) (known : m < s .directory .modules) (some : s .freeTasks ≢ 0) where
   abbrev k : ℕ
-  k = least (s .idle)
+  k = least (s .freeTasks)
 
   module _ (p : ℕ) (parent : p ≤ 24) (apart : p ≢ k) where
     pub new : InHand (created s k m p) k [] p
     new =
         let b = g .shape .blank in
-        create (g .shape) k m p (least-some (s .idle) 25 (omega arith) (b .idle) some (b .idle-none))
-        (omega (arith, least-low (s .idle) 25 (omega arith) (b .idle) some (b .idle-none)))
-        (least-in (s .idle) 25 (omega arith) (b .idle) some (b .idle-none)) known parent apart
+        create (g .shape) k m p (least-some (s .freeTasks) 25 (omega arith) (b .freeTasks) some (b .freeTasks-none))
+        (omega (arith, least-low (s .freeTasks) 25 (omega arith) (b .freeTasks) some (b .freeTasks-none)))
+        (least-in (s .freeTasks) 25 (omega arith) (b .freeTasks) some (b .freeTasks-none)) known parent apart
 
     pub new-rest : Rest (created s k m p) []
     unfolding created
@@ -54,7 +54,7 @@ module _ {s : State} (g : Lawful s) (m : ℕ) (known : m < s .directory .modules
         rest-alone {s = s} {k = k} refl refl refl refl refl (λ y d. getD-set-other (s .tasks) k y _ noTask d) (hand-count new) (g .rest)
 
   pub new-apart : 0 ≢ k
-  new-apart z = let b = g .shape .blank in omega (arith, z, least-some (s .idle) 25 (omega arith) (b .idle) some (b .idle-none))
+  new-apart z = let b = g .shape .blank in omega (arith, z, least-some (s .freeTasks) 25 (omega arith) (b .freeTasks) some (b .freeTasks-none))
 
   pub made-settled : Settled (madeReady (created s k m 0) k)
   made-settled =
@@ -63,8 +63,8 @@ module _ {s : State} (g : Lawful s) (m : ℕ) (known : m < s .directory .modules
       settled (d .shape) (rest-made i d (new-rest 0 (omega arith) new-apart))
 
 -- ---- Operator start.
-pub start-keeps : {s : State} (c : Call) → Lawful s → c .number < s .directory .modules → s .idle ≢ 0 → Settled (start s c .state)
-unfolding start
+pub start-keeps : {s : State} (c : Call) → Lawful s → c .number < s .directory .modules → s .freeTasks ≢ 0 → Settled (operatorStart s c .state)
+unfolding operatorStart
 start-keeps c g known some = made-settled g (c .number) known some
 
 -- ---- Waiting. A block in hand waits, for a condition that does not hold
@@ -110,12 +110,12 @@ rest-stopped s r a =
     }
 
 -- ---- SCHEDULE.
-pub schedule-keeps : {s : State} (c : Call) → Lawful s → c .number < s .directory .modules → s .idle ≢ 0 → Condition s c → Settled (schedule s c .state)
+pub schedule-keeps : {s : State} (c : Call) → Lawful s → c .number < s .directory .modules → s .freeTasks ≢ 0 → Condition s c → Settled (schedule s c .state)
 unfolding schedule
 schedule-keeps {s} c g known some w = go (holds s c) refl
   where
     k : ℕ
-    k = least (s .idle)
+    k = least (s .freeTasks)
 
     go : (b : Bool) → holds s c ≡ b → Settled (cond b (madeReady (created s k (c .number) 0) k) (waiting (created s k (c .number) 0) k c))
     go true f = made-settled g (c .number) known some

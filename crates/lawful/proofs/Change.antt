@@ -28,7 +28,7 @@ pub record Same (s s′ : State) (y : ℕ) : Type 0 where
   pub block : taskAt s′ y ≡ taskAt s y
   pub queues : (q : ℕ) → q < 9 → count y (queue s′ q) ≡ count y (queue s q)
   pub runs : one (s′ .running) y ≡ one (s .running) y
-  pub idle : bit (s′ .idle) y ≡ bit (s .idle) y
+  pub freeTasks : bit (s′ .freeTasks) y ≡ bit (s .freeTasks) y
   pub requests : s′ .requests ≡ s .requests
 
 pub stands-same : {s s′ : State} {p p′ y : ℕ} → Same s s′ y → p′ ≡ p → Stands s p y → Stands s′ p′ y
@@ -39,7 +39,7 @@ stands-same {s} {s′} {p} {p′} {y} c e w =
           c .queues q l ∙ w .queued q l
           ∙ sym (ap₂ (λ (a b : ℕ). one (queueFor a b) q) e (ap₂ (λ (d : Directory) (t : Task). moduleOf d t .level) (c .directory) (c .block)));
       runs = rw e (c .runs ∙ w .runs);
-      idle = rw e (c .idle ∙ w .idle);
+      freeTasks = rw e (c .freeTasks ∙ w .freeTasks);
       checks = λ z. rw (c .requests, c .block) (w .checks (sym e ∙ z));
       ends = λ z. rw (c .requests) (w .ends (sym e ∙ z));
     }
@@ -47,7 +47,7 @@ stands-same {s} {s′} {p} {p′} {y} c e w =
 -- ---- The law. The task blocks ts are those of s but for the block k; r runs, i are idle, p are the pools, l the queues.
 module _ (s : State) (k : ℕ) (ts : List Task) (r i : ℕ) (p : List ℕ) (l : List (List ℕ)) where
   abbrev pub changed : State
-  changed = state s.directory s.clock s.on r s.channel i s.spare p ts s.requests l
+  changed = state s.directory s.clock s.on r s.channel i s.freeRequests p ts s.requests l
 
   pub record Changes (h h′ : List ℕ) (e′ : ℕ) : Type 0 where
     pub some : 1 ≤ k
@@ -60,13 +60,13 @@ module _ (s : State) (k : ℕ) (ts : List Task) (r i : ℕ) (p : List ℕ) (l : 
     pub hands : (y : ℕ) → y ≢ k → (y among h′) ≡ (y among h)
     pub queues : (q y : ℕ) → y ≢ k → count y (getD l q []) ≡ count y (queue s q)
     pub runs : (y : ℕ) → 1 ≤ y → y ≢ k → one r y ≡ one (s .running) y
-    pub idle : (y : ℕ) → y ≢ k → bit i y ≡ bit (s .idle) y
+    pub freeTasks : (y : ℕ) → y ≢ k → bit i y ≡ bit (s .freeTasks) y
     -- the whole
     pub long : length ts ≡ 25
     pub nine : length l ≡ 9
     pub four : length p ≡ 4
     pub running : r ≤ 24
-    pub idles : i < 2 ^ 25
+    pub tasksFree : i < 2 ^ 25
     pub pool : getD p 0 0 ≡ 0
     pub core : Core (s .directory) ts p
     pub links : (y : ℕ) → 1 ≤ y → y ≤ 24 → children ts y ≡ one (placeOf changed h′ y) InLink + one y e′
@@ -98,10 +98,10 @@ module _ (s : State) (k : ℕ) (ts : List Task) (r i : ℕ) (p : List ℕ) (l : 
             block = u .blocks 0 (λ z. omega (arith, z, u .some)) ∙ b .block;
             request = b .request;
             pool = u .pool;
-            idle = u .idles;
-            idle-none = u .idle 0 (λ z. omega (arith, z, u .some)) ∙ b .idle-none;
-            spare = b .spare;
-            spare-none = b .spare-none;
+            freeTasks = u .tasksFree;
+            freeTasks-none = u .freeTasks 0 (λ z. omega (arith, z, u .some)) ∙ b .freeTasks-none;
+            freeRequests = b .freeRequests;
+            freeRequests-none = b .freeRequests-none;
             running = u .running;
             channel = b .channel;
             on = b .on;
@@ -113,7 +113,7 @@ module _ (s : State) (k : ℕ) (ts : List Task) (r i : ℕ) (p : List ℕ) (l : 
                 block = u .blocks y (z .1);
                 queues = λ q n. u .queues q y (z .1);
                 runs = u .runs y a (z .1);
-                idle = u .idle y (z .1);
+                freeTasks = u .freeTasks y (z .1);
                 requests = refl;
               }) (place-kept y (z .1)) (g .tasks y a b)) (tested y k);
           requests = λ j a b. let w = g .requests j a b in let d : node j ≢ k = λ z. omega (arith, z, u .low) in record {
@@ -126,7 +126,7 @@ module _ (s : State) (k : ℕ) (ts : List Task) (r i : ℕ) (p : List ℕ) (l : 
             others = λ q n. u .queues q (node j) d ∙ w .others q n;
             queued = u .queues channelQueue (node j) d ∙ w .queued;
             runs = w .runs;
-            spare = w .spare;
+            freeRequests = w .freeRequests;
           };
           none = λ q. u .queues q 0 (λ z. omega (arith, z, u .some)) ∙ g .none q;
           beyond = λ q y n. u .queues q y (λ z. omega (arith, z, n, u .low)) ∙ g .beyond q y n;

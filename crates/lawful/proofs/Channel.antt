@@ -10,7 +10,7 @@ use lib.Seq.{getD-set-same, getD-set-other}
 use lib.Dec.{eqb}
 use Rattle.threads.specs.Threads.{hd, count, without}
 use Rattle.threads.proofs.Lists.{tested}
-use Rattle.words.specs.Words.{if_then_else_, isEmpty, upBy, placedBy, dropping, least}
+use Rattle.words.specs.Words.{if_then_else_, isEmpty, upBy, insertedBy, dropping, least}
 use Rattle.words.proofs.Changes.{dropping-low}
 use Rattle.tables.specs.declared.Request.{Request}
 use Rattle.tables.specs.State.{State, eventQueue, channelQueue, coreQueue, node, requestOf, taskAt, requestAt, queue, levelOf, unitsOf}
@@ -18,8 +18,8 @@ use Rattle.tables.specs.Blocks.{InLink, InCheck, Queued, OnChannel, Done, reque
 use Rattle.calls.specs.declared.Call.{Call}
 use Rattle.meaning.specs.Conditions.{enough}
 use Rattle.meaning.specs.Finish.{freedRequest}
-use Rattle.meaning.specs.Channel.{queued, started, channelLevel}
-use Rattle.meaning.specs.Services.{asked, transfer, awaitsRequest, check}
+use Rattle.meaning.specs.Channel.{queued, channelFilled, channelLevel}
+use Rattle.meaning.specs.Services.{asked, readOrWrite, awaitsRequest, check}
 use Rattle.lawful.specs.Shape.{Fields, Pending, Carried, Shape, InHand}
 use Rattle.lawful.specs.Resting.{Asleep, Stuck, Rest, Lawful, Settled}
 use Rattle.lawful.proofs.Tests.{emptied, filled}
@@ -89,7 +89,7 @@ module _ {s : State} {h : List ℕ} {e : ℕ} (g : Shape s h e) (z : s .channel 
   abbrev rest-queue : List (List ℕ)
   rest-queue = set (s .queues) channelQueue (without n (queue s channelQueue))
 
-  pub goes-on : Shape (asking s (n - 24) on-it (n - 24) (s .spare) rest-queue) h e
+  pub goes-on : Shape (asking s (n - 24) on-it (n - 24) (s .freeRequests) rest-queue) h e
   unfolding channelLevel
   goes-on =
       let m = without n (queue s channelQueue) in
@@ -109,9 +109,9 @@ module _ {s : State} {h : List ℕ} {e : ℕ} (g : Shape s h e) (z : s .channel 
         bound = r-low;
         runs = one-same (n - 24) (n - 24) refl ∙ sym (one-same OnChannel OnChannel refl);
         run-others = λ y a d. one-other (n - 24) y (λ i. d (sym i)) ∙ sym (one-other (s .channel) y (λ i. omega (arith, i, z, a)));
-        spares = g .blank .spare;
-        spare = was .spare ∙ one-other _ 0 (λ i. omega (arith, i, was-queued)) ∙ sym (one-other OnChannel 0 (λ i. omega (arith, i)));
-        spare-others = λ y d. refl;
+        requestsFree = g .blank .freeRequests;
+        freeRequests = was .freeRequests ∙ one-other _ 0 (λ i. omega (arith, i, was-queued)) ∙ sym (one-other OnChannel 0 (λ i. omega (arith, i)));
+        freeRequests-others = λ y d. refl;
         checks = λ y a b i. still (g .tasks y a b .checks i);
         ends = λ y a b i. let p = g .tasks y a b .ends i in (p .0, still (p .1));
         levelled =
@@ -123,8 +123,8 @@ pub record Starts (s : State) (h : List ℕ) (e : ℕ) (m : List ℕ) : Type 0 w
   pub shape : Shape s h e
   pub rest : Rest s m
 
-pub starts : {s : State} {h : List ℕ} {e : ℕ} {m : List ℕ} → Shape s h e → RestOff s m → Starts (started s) h e m
-unfolding started
+pub starts : {s : State} {h : List ℕ} {e : ℕ} {m : List ℕ} → Shape s h e → RestOff s m → Starts (channelFilled s) h e m
+unfolding channelFilled
 starts {s} {h} {e} {m} g a =
     ⊎-elim (λ z. rw (z .0) (go (z .1) (isEmpty (queue s channelQueue)) refl))
     (λ z. rw (z .0) (record { shape = g; rest = record { asleep = a .asleep; stuck = a .stuck; flowing = record { flowing = λ x c. absurd (z .1 c) } } })) (tested (s .channel) 0)
@@ -133,13 +133,13 @@ starts {s} {h} {e} {m} g a =
     n = hd (queue s channelQueue)
 
     go : s .channel ≡ 0 → (b : Bool) → isEmpty (queue s channelQueue) ≡ b
-        → Starts (if not b then asking s (hd (queue s channelQueue) - 24) (let t = requestAt s (hd (queue s channelQueue) - 24) in request OnChannel t.owner t.device t.command t.bytes) (hd (queue s channelQueue) - 24) (s .spare) (set (s .queues) channelQueue (without (hd (queue s channelQueue)) (queue s channelQueue))) else s) h e m
+        → Starts (if not b then asking s (hd (queue s channelQueue) - 24) (let t = requestAt s (hd (queue s channelQueue) - 24) in request OnChannel t.owner t.device t.command t.bytes) (hd (queue s channelQueue) - 24) (s .freeRequests) (set (s .queues) channelQueue (without (hd (queue s channelQueue)) (queue s channelQueue))) else s) h e m
     go z true f =
         record { shape = g; rest = record { asleep = a .asleep; stuck = a .stuck; flowing = record { flowing = λ x c. emptied (queue s channelQueue) f } } }
     go z false f =
         let p = filled (queue s channelQueue) f in
         let o = goes-on g z (hd (queue s channelQueue)) (p .0) (p .1) in
-        let w = rest-asking {s = s} (hd (queue s channelQueue) - 24) _ (hd (queue s channelQueue) - 24) (s .spare) (set (s .queues) channelQueue (without (hd (queue s channelQueue)) (queue s channelQueue)))
+        let w = rest-asking {s = s} (hd (queue s channelQueue) - 24) _ (hd (queue s channelQueue) - 24) (s .freeRequests) (set (s .queues) channelQueue (without (hd (queue s channelQueue)) (queue s channelQueue)))
         (λ i d. set-others (s .queues) channelQueue _ (g .sizes .queues) (omega arith) i d) a in
         record {
           shape = o;
@@ -151,28 +151,28 @@ starts {s} {h} {e} {m} g a =
         }
 
 -- ---- The lowest free request block.
-module _ {s : State} {h : List ℕ} {e : ℕ} (g : Shape s h e) (some : s .spare ≢ 0) where
-  pub spare-some : 1 ≤ least (s .spare)
-  spare-some = least-some (s .spare) 17 (omega arith) (g .blank .spare) some (g .blank .spare-none)
+module _ {s : State} {h : List ℕ} {e : ℕ} (g : Shape s h e) (some : s .freeRequests ≢ 0) where
+  pub freeRequests-some : 1 ≤ least (s .freeRequests)
+  freeRequests-some = least-some (s .freeRequests) 17 (omega arith) (g .blank .freeRequests) some (g .blank .freeRequests-none)
 
-  pub spare-low : least (s .spare) ≤ 16
-  spare-low = omega (arith, least-low (s .spare) 17 (omega arith) (g .blank .spare) some (g .blank .spare-none))
+  pub freeRequests-low : least (s .freeRequests) ≤ 16
+  freeRequests-low = omega (arith, least-low (s .freeRequests) 17 (omega arith) (g .blank .freeRequests) some (g .blank .freeRequests-none))
 
-  pub spare-free : requestAt s (least (s .spare)) .place ≡ 0
-  spare-free =
-      let i = least-in (s .spare) 17 (omega arith) (g .blank .spare) some (g .blank .spare-none) in
-      one-eq _ 0 (sym (g .requests (least (s .spare)) spare-some spare-low .spare) ∙ i)
+  pub freeRequests-free : requestAt s (least (s .freeRequests)) .place ≡ 0
+  freeRequests-free =
+      let i = least-in (s .freeRequests) 17 (omega arith) (g .blank .freeRequests) some (g .blank .freeRequests-none) in
+      one-eq _ 0 (sym (g .requests (least (s .freeRequests)) freeRequests-some freeRequests-low .freeRequests) ∙ i)
 
 -- ---- READ, WRITE.
-module _ {s : State} (g : Lawful s) (n : s .running ≢ 0) (some : s .spare ≢ 0) (device command bytes : ℕ) (lo : device ≤ 249) (c : (13 ≤ command) × (command ≤ 14)) (b : 1 ≤ bytes) where
+module _ {s : State} (g : Lawful s) (n : s .running ≢ 0) (some : s .freeRequests ≢ 0) (device command bytes : ℕ) (lo : device ≤ 249) (c : (13 ≤ command) × (command ≤ 14)) (b : 1 ≤ bytes) where
   abbrev new-r : ℕ
-  new-r = least (s .spare)
+  new-r = least (s .freeRequests)
 
   abbrev new-one : Request
   new-one = request Queued (s .running) device command bytes
 
   was-free : requestAt s new-r .place ≡ 0
-  was-free = spare-free (g .shape) some
+  was-free = freeRequests-free (g .shape) some
 
   not-pending : {y i : ℕ} → Pending (s .requests) y i → i ≢ new-r
   not-pending p z = omega (arith, p .first, ap (λ (j : ℕ). requestAt s j .place) z, was-free)
@@ -182,18 +182,18 @@ module _ {s : State} (g : Lawful s) (n : s .running ≢ 0) (some : s .spare ≢ 
   key i = levelOf s (getD (set (s .requests) new-r new-one) (requestOf i) noRequest .owner)
 
   abbrev longer : List ℕ
-  longer = placedBy key (node new-r) (queue s channelQueue)
+  longer = insertedBy key (node new-r) (queue s channelQueue)
 
-  entered : Shape (asking s new-r new-one (s .channel) (dropping (s .spare) new-r) (set (s .queues) channelQueue longer)) [] 0
+  entered : Shape (asking s new-r new-one (s .channel) (dropping (s .freeRequests) new-r) (set (s .queues) channelQueue longer)) [] 0
   unfolding channelLevel key
   entered =
       let v = g .shape in
-      let w = v .requests new-r (spare-some v some) (spare-low v some) in
+      let w = v .requests new-r (freeRequests-some v some) (freeRequests-low v some) in
       let nine = v .sizes .queues in
       let gone = set-queue (s .queues) channelQueue longer nine (omega arith) in
       ask s new-r new-one v (record {
-        some = spare-some v some;
-        low = spare-low v some;
+        some = freeRequests-some v some;
+        low = freeRequests-low v some;
         nine = set-nine (s .queues) channelQueue longer nine (omega arith);
         same = λ i d. set-others (s .queues) channelQueue longer nine (omega arith) i d;
         others = λ y d. rw gone (omega (arith, count-placed key (node new-r) y (queue s channelQueue), one-other (node new-r) y (λ i. d (sym i))));
@@ -205,9 +205,9 @@ module _ {s : State} (g : Lawful s) (n : s .running ≢ 0) (some : s .spare ≢ 
         bound = v .blank .channel;
         runs = w .runs ∙ one-other _ OnChannel (λ i. omega (arith, i, was-free)) ∙ sym (one-other Queued OnChannel (λ i. omega (arith, i)));
         run-others = λ y a d. refl;
-        spares = omega (arith, v .blank .spare, dropping-low (s .spare) new-r);
-        spare = dropped-same (s .spare) new-r ∙ sym (one-other Queued 0 (λ i. omega (arith, i)));
-        spare-others = λ y d. dropped-other (s .spare) new-r y d;
+        requestsFree = omega (arith, v .blank .freeRequests, dropping-low (s .freeRequests) new-r);
+        freeRequests = dropped-same (s .freeRequests) new-r ∙ sym (one-other Queued 0 (λ i. omega (arith, i)));
+        freeRequests-others = λ y d. dropped-other (s .freeRequests) new-r y d;
         checks = λ y a b i. let p = v .tasks y a b .checks i in pending-kept new-r new-one (not-pending p) p;
         ends = λ y a b i. let p = v .tasks y a b .ends i in (p .0, pending-kept new-r new-one (not-pending (p .1)) (p .1));
         levelled =
@@ -218,21 +218,21 @@ module _ {s : State} (g : Lawful s) (n : s .running ≢ 0) (some : s .spare ≢ 
             ∙ v .levelled));
       })
 
-  transfer-settled : Settled (started (asking s new-r new-one (s .channel) (dropping (s .spare) new-r) (set (s .queues) channelQueue longer)))
+  transfer-settled : Settled (channelFilled (asking s new-r new-one (s .channel) (dropping (s .freeRequests) new-r) (set (s .queues) channelQueue longer)))
   transfer-settled =
-      let w = starts entered (rest-asking {s = s} new-r new-one (s .channel) (dropping (s .spare) new-r) (set (s .queues) channelQueue longer)
+      let w = starts entered (rest-asking {s = s} new-r new-one (s .channel) (dropping (s .freeRequests) new-r) (set (s .queues) channelQueue longer)
       (λ i d. set-others (s .queues) channelQueue longer (g .shape .sizes .queues) (omega arith) i d) (record { asleep = g .rest .asleep; stuck = g .rest .stuck })) in
       settled (w .shape) (w .rest)
 
 -- the request is in the channel queue
-pub transfer-shape : {s : State} (c : Call) → Lawful s → s .running ≢ 0 → s .spare ≢ 0 → c .number ≤ 249 → (13 ≤ c .code) × (c .code ≤ 14) → 1 ≤ c .amount
-    → Shape (queued (asked s (least (s .spare)) c) (least (s .spare))) [] 0
+pub transfer-shape : {s : State} (c : Call) → Lawful s → s .running ≢ 0 → s .freeRequests ≢ 0 → c .number ≤ 249 → (13 ≤ c .code) × (c .code ≤ 14) → 1 ≤ c .amount
+    → Shape (queued (asked s (least (s .freeRequests)) c) (least (s .freeRequests))) [] 0
 unfolding asked queued channelLevel key
 transfer-shape c g n some lo k b = entered g n some (c .number) (c .code) (c .amount) lo k b
 
-pub transfer-keeps : {s : State} (c : Call) → Lawful s → s .running ≢ 0 → s .spare ≢ 0 → c .number ≤ 249 → (13 ≤ c .code) × (c .code ≤ 14) → 1 ≤ c .amount
-    → Settled (transfer s c .state)
-unfolding transfer asked queued channelLevel key
+pub transfer-keeps : {s : State} (c : Call) → Lawful s → s .running ≢ 0 → s .freeRequests ≢ 0 → c .number ≤ 249 → (13 ≤ c .code) × (c .code ≤ 14) → 1 ≤ c .amount
+    → Settled (readOrWrite s c .state)
+unfolding readOrWrite asked queued channelLevel key
 transfer-keeps c g n some lo k b = transfer-settled g n some (c .number) (c .code) (c .amount) lo k b
 
 -- ---- CHECK.

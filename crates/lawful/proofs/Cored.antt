@@ -23,7 +23,7 @@ use Rattle.pools.specs.Runs.{FreeRun}
 use Rattle.pools.proofs.Units.{free-inside}
 use Rattle.pools.proofs.Starts.{start-free}
 use Rattle.pools.proofs.Runs.{granted-low, run-apart}
-use Rattle.meaning.specs.Ready.{startFor, granted}
+use Rattle.meaning.specs.Ready.{startFor, givenRun}
 use Rattle.meaning.specs.Rules.{queueFor}
 use Rattle.lawful.specs.Shape.{one, bit, Hand, placeOf, moduleOf, Fields, Stands, holding, Core, Shape}
 use Rattle.lawful.proofs.Change.{change, ranked-kept}
@@ -53,7 +53,7 @@ module _ (s : State) (k c a level x : ℕ) where
 
   abbrev pub coring : State
   coring =
-      state s.directory s.clock s.on s.running s.channel s.idle s.spare (set (s .pools) level x) (set (s .tasks) k recored) s.requests s.queues
+      state s.directory s.clock s.on s.running s.channel s.freeTasks s.freeRequests (set (s .pools) level x) (set (s .tasks) k recored) s.requests s.queues
 
   kept : (f : Task → ℕ) → f recored ≡ f (taskAt s k) → (y : ℕ) → f (taskAt coring y) ≡ f (taskAt s y)
   kept f e y = field-kept f (s .tasks) k y recored noTask e
@@ -80,14 +80,14 @@ module _ (s : State) (k c a level x : ℕ) where
           fields = rw core-same f;
           queued = λ q l. w .queued q l ∙ sym (ap (λ (b : ℕ). one (queueFor (placeOf s h k) b) q) (core-level k));
           runs = w .runs;
-          idle = w .idle;
+          freeTasks = w .freeTasks;
           checks = λ p. rw (kept (λ t. t .request) refl k) (w .checks p);
           ends = w .ends;
         })
 
     pub recore : Shape coring h e
     recore =
-        change s k (set (s .tasks) k recored) (s .running) (s .idle) (set (s .pools) level x) (s .queues) g (record {
+        change s k (set (s .tasks) k recored) (s .running) (s .freeTasks) (set (s .pools) level x) (s .queues) g (record {
           some = some;
           low = low;
           own = cored-own;
@@ -96,12 +96,12 @@ module _ (s : State) (k c a level x : ℕ) where
           hands = λ y d. refl;
           queues = λ q y d. refl;
           runs = λ y b d. refl;
-          idle = λ y d. refl;
+          freeTasks = λ y d. refl;
           long = length-set (s .tasks) k recored ∙ g .sizes .tasks;
           nine = g .sizes .queues;
           four = length-set (s .pools) level x ∙ g .sizes .pools;
           running = g .blank .running;
-          idles = g .blank .idle;
+          tasksFree = g .blank .freeTasks;
           pool = getD-set-other (s .pools) level 0 x 0 (λ z. omega (arith, z, best)) ∙ g .blank .pool;
           core = r;
           links = λ y b b′. sum-kept (λ (t : Task). one (t .parent) y) (s .tasks) k recored noTask refl ∙ rw (core-place h y) (g .links y b b′);
@@ -150,8 +150,8 @@ module _ {s : State} {h : List ℕ} {e k : ℕ} (g : Shape s h e) (some : 1 ≤ 
     apart : bitAnd (poolAt s (levelOf s k)) (run (startFor s k) (unitsOf s k)) ≡ 0
     apart = run-apart (poolAt s (levelOf s k)) (startFor s k) (unitsOf s k) (g .core .low (levelOf s k)) is-free
 
-    pub grant : Shape (granted s k) h e
-    unfolding granted
+    pub grant : Shape (givenRun s k) h e
+    unfolding givenRun
     grant =
         let w = g .tasks k some low .fields in
         recore s k 1 (startFor s k) (levelOf s k) _ g some low (level-best g some low used)

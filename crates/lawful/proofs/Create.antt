@@ -29,7 +29,7 @@ use Rattle.lawful.proofs.Members.{not-in}
 use Rattle.lawful.proofs.Free.{dropped-same, dropped-other}
 use Rattle.lawful.proofs.Freed.{new-fields}
 
-module _ {s : State} {h : List ℕ} (g : Shape s h 0) (k m p : ℕ) (some : 1 ≤ k) (low : k ≤ 24) (idle : bit (s .idle) k ≡ 1)
+module _ {s : State} {h : List ℕ} (g : Shape s h 0) (k m p : ℕ) (some : 1 ≤ k) (low : k ≤ 24) (freeTasks : bit (s .freeTasks) k ≡ 1)
     (known : m < s .directory .modules) (parent : p ≤ 24) (apart : p ≢ k) where
   abbrev fresh : Task
   fresh = task 0 m p 0 0 0 0 0 0
@@ -41,8 +41,8 @@ module _ {s : State} {h : List ℕ} (g : Shape s h 0) (k m p : ℕ) (some : 1 �
     on = s .on;
     running = s .running;
     channel = s .channel;
-    idle = dropping (s .idle) k;
-    spare = s .spare;
+    freeTasks = dropping (s .freeTasks) k;
+    freeRequests = s .freeRequests;
     pools = s .pools;
     tasks = set (s .tasks) k fresh;
     requests = s .requests;
@@ -53,7 +53,7 @@ module _ {s : State} {h : List ℕ} (g : Shape s h 0) (k m p : ℕ) (some : 1 �
   was = g .tasks k some low
 
   was-free : placeOf s h k ≡ Free
-  was-free = one-eq _ Free (sym (was .idle) ∙ idle)
+  was-free = one-eq _ Free (sym (was .freeTasks) ∙ freeTasks)
 
   zeros : taskAt s k .place + taskAt s k .program + taskAt s k .parent + taskAt s k .core + taskAt s k .start + taskAt s k .count + taskAt s k .events + taskAt s k .time + taskAt s k .request ≡ 0
   zeros = was .fields .free was-free
@@ -86,7 +86,7 @@ module _ {s : State} {h : List ℕ} (g : Shape s h 0) (k m p : ℕ) (some : 1 �
         fields = rw same (new-fields (s .directory) (inr refl) (λ z. absurd (omega (arith, z))) (λ z. known) parent);
         queued = λ q l. no-queue q l ∙ sym (one-other 9 q (λ z. omega (arith, z, l)));
         runs = was .runs ∙ ap (λ (x : ℕ). one x Running) was-free ∙ one-other Free Running (λ z. omega (arith, z)) ∙ sym (one-other Hand Running (λ z. omega (arith, z)));
-        idle = dropped-same (s .idle) k ∙ sym (one-other Hand Free (λ z. omega (arith, z)));
+        freeTasks = dropped-same (s .freeTasks) k ∙ sym (one-other Hand Free (λ z. omega (arith, z)));
         checks = λ z. absurd (omega (arith, z));
         ends = λ z. absurd (omega (arith, z));
       })
@@ -123,7 +123,7 @@ module _ {s : State} {h : List ℕ} (g : Shape s h 0) (k m p : ℕ) (some : 1 �
 
   make : Shape made (k ∷ h) p
   make =
-      change s k (set (s .tasks) k fresh) (s .running) (dropping (s .idle) k) (s .pools) (s .queues) g (record {
+      change s k (set (s .tasks) k fresh) (s .running) (dropping (s .freeTasks) k) (s .pools) (s .queues) g (record {
         some = some;
         low = low;
         own = made-own;
@@ -132,12 +132,12 @@ module _ {s : State} {h : List ℕ} (g : Shape s h 0) (k m p : ℕ) (some : 1 �
         hands = λ y d. past-hand k y h d;
         queues = λ q y d. refl;
         runs = λ y a d. refl;
-        idle = λ y d. dropped-other (s .idle) k y d;
+        freeTasks = λ y d. dropped-other (s .freeTasks) k y d;
         long = length-set (s .tasks) k fresh ∙ g .sizes .tasks;
         nine = g .sizes .queues;
         four = g .sizes .pools;
         running = g .blank .running;
-        idles = omega (arith, g .blank .idle, dropping-low (s .idle) k);
+        tasksFree = omega (arith, g .blank .freeTasks, dropping-low (s .freeTasks) k);
         pool = g .blank .pool;
         core =
             core-kept k fresh (g .core) (λ level u.

@@ -58,7 +58,7 @@ free-fields d = new-fields d (inl refl) (λ z. refl) (λ z. absurd (z refl)) (om
 module _ {s : State} {k : ℕ} {h : List ℕ} {e : ℕ} (i : InHand s k h e) (coreless : taskAt s k .core ≢ 1)
     (ownerless : (r : ℕ) → 1 ≤ r → r ≤ 16 → 1 ≤ requestAt s r .place → requestAt s r .owner ≢ k) (link : taskAt s k .parent ≡ e) where
   abbrev freed : State
-  freed = state s.directory s.clock s.on s.running s.channel (adding (s .idle) k) s.spare s.pools (set (s .tasks) k noTask) s.requests s.queues
+  freed = state s.directory s.clock s.on s.running s.channel (adding (s .freeTasks) k) s.freeRequests s.pools (set (s .tasks) k noTask) s.requests s.queues
 
   g : Shape s (k ∷ h) e
   g = i .shape
@@ -83,7 +83,7 @@ module _ {s : State} {k : ℕ} {h : List ℕ} {e : ℕ} (i : InHand s k h e) (co
         fields = rw same (free-fields (s .directory));
         queued = λ q l. hand-count i q l ∙ sym (one-other 9 q (λ z. omega (arith, z, l)));
         runs = hand-runs i ∙ sym (one-other Free Running (λ z. omega (arith, z)));
-        idle = added-same (s .idle) k ∙ sym (one-same Free Free refl);
+        freeTasks = added-same (s .freeTasks) k ∙ sym (one-same Free Free refl);
         checks = λ z. absurd (omega (arith, z));
         ends = λ z. absurd (omega (arith, z));
       })
@@ -102,7 +102,7 @@ module _ {s : State} {k : ℕ} {h : List ℕ} {e : ℕ} (i : InHand s k h e) (co
 
   make : Shape freed h 0
   make =
-      change s k (set (s .tasks) k noTask) (s .running) (adding (s .idle) k) (s .pools) (s .queues) g (record {
+      change s k (set (s .tasks) k noTask) (s .running) (adding (s .freeTasks) k) (s .pools) (s .queues) g (record {
         some = i .some;
         low = i .low;
         own = own;
@@ -111,12 +111,12 @@ module _ {s : State} {k : ℕ} {h : List ℕ} {e : ℕ} (i : InHand s k h e) (co
         hands = λ y d. sym (past-hand k y h d);
         queues = λ q y d. refl;
         runs = λ y a d. refl;
-        idle = λ y d. added-other (s .idle) k y d;
+        freeTasks = λ y d. added-other (s .freeTasks) k y d;
         long = length-set (s .tasks) k noTask ∙ g .sizes .tasks;
         nine = g .sizes .queues;
         four = g .sizes .pools;
         running = g .blank .running;
-        idles = adding-low 25 (s .idle) k (g .blank .idle) (omega (arith, i .low));
+        tasksFree = adding-low 25 (s .freeTasks) k (g .blank .freeTasks) (omega (arith, i .low));
         pool = g .blank .pool;
         core =
             core-kept k noTask (g .core) (λ level u.

@@ -11,7 +11,7 @@ use lib.Dec.{eqb, leb, ltb}
 use borrow.Author.Tests.{eqb-true, eq-eqb, leb-true, ltb-true, not-true, not-false}
 use Rattle.threads.specs.Threads.{count, Apart}
 use Rattle.threads.proofs.Lists.{tested}
-use Rattle.words.specs.Words.{_implies_, upBy, each-holds, has}
+use Rattle.words.specs.Words.{_implies_, upBy, allTrue, has}
 use Rattle.words.proofs.Places.{under-or-from}
 use Rattle.tables.specs.declared.Request.{Request}
 use Rattle.tables.specs.declared.Task.{Task}
@@ -20,7 +20,7 @@ use Rattle.tables.specs.State.{State, eventQueue, timeQueue, channelQueue, task
 use Rattle.meaning.specs.Conditions.{undefinedIn}
 use Rattle.meaning.specs.Finish.{pendingOf, pending}
 use Rattle.meaning.specs.Channel.{channelLevel}
-use Rattle.meaning.specs.Rules.{everyTask, everyRequest, taskInRange, requestInRange, inRange, onDefined, tasksInPlace, requestsInPlace, freeSets, blankTask, blankRequest, clearTask, clearRequest, clear, queuesInOrder, coreNeeded, owned, checksPending, endingPending, stateRules, queueFor}
+use Rattle.meaning.specs.Rules.{everyTask, everyRequest, taskInRange, requestInRange, inRange, onDefined, tasksInPlace, requestsInPlace, freeSets, blankTask, blankRequest, clearTask, clearRequest, fieldsClear, queuesInOrder, coreNeeded, owned, checksPending, endingPending, stateRules, queueFor}
 use Rattle.lawful.specs.Shape.{one, placeOf, Fields, Stands, Carried, Sizes, Blank, Shape}
 use Rattle.lawful.specs.Resting.{Lawful}
 use Rattle.lawful.proofs.Shape.{one-same, one-other, rest-place}
@@ -39,13 +39,13 @@ use Rattle.lawful.proofs.Pendings.{pending-at, pending-of, pending-some
 use Rattle.lawful.proofs.Bits.{bit-of, and-within}
 
 -- the i-th of a list of tests
-each-at : (l : List Bool) → each-holds l ≡ true → (i : ℕ) → getD l i true ≡ true
-unfolding each-holds
+each-at : (l : List Bool) → allTrue l ≡ true → (i : ℕ) → getD l i true ≡ true
+unfolding allTrue
 each-at [] e i = refl
-each-at (b ∷ l) e zero = both b (each-holds l) e .0
-each-at (b ∷ l) e (suc i) = each-at l (both b (each-holds l) e .1) i
+each-at (b ∷ l) e zero = both b (allTrue l) e .0
+each-at (b ∷ l) e (suc i) = each-at l (both b (allTrue l) e .1) i
 
-module _ (s : State) (z : Sizes s) (low : (level : ℕ) → poolAt s level < 2 ^ 64) (u : Apart (s .queues)) (e : each-holds (stateRules s) ≡ true) where
+module _ (s : State) (z : Sizes s) (low : (level : ℕ) → poolAt s level < 2 ^ 64) (u : Apart (s .queues)) (e : allTrue (stateRules s) ≡ true) where
   -- ---- The tests of every block, and those of the whole.
 
   ranges : (leb (s .running) 24 ≡ true) × (leb (s .channel) 16 ≡ true)
@@ -57,9 +57,9 @@ module _ (s : State) (z : Sizes s) (low : (level : ℕ) → poolAt s level < 2 ^
       let c = both _ _ (b .0) in
       (c .0, c .1, b .1, a .1)
 
-  sets : (everyTask (λ k. Bool·beq (has (s .idle) k) (eqb (taskAt s k .place) Free)) ≡ true)
-      × (everyRequest (λ r. Bool·beq (has (s .spare) r) (eqb (requestAt s r .place) Free)) ≡ true)
-      × (ltb (s .idle) (2 ^ 25) ≡ true) × (not (has (s .idle) 0) ≡ true) × (ltb (s .spare) (2 ^ 17) ≡ true) × (not (has (s .spare) 0) ≡ true)
+  sets : (everyTask (λ k. Bool·beq (has (s .freeTasks) k) (eqb (taskAt s k .place) Free)) ≡ true)
+      × (everyRequest (λ r. Bool·beq (has (s .freeRequests) r) (eqb (requestAt s r .place) Free)) ≡ true)
+      × (ltb (s .freeTasks) (2 ^ 25) ≡ true) × (not (has (s .freeTasks) 0) ≡ true) × (ltb (s .freeRequests) (2 ^ 17) ≡ true) × (not (has (s .freeRequests) 0) ≡ true)
   unfolding stateRules freeSets
   sets =
       let a = both _ _ (each-at (stateRules s) e 5) in
@@ -71,7 +71,7 @@ module _ (s : State) (z : Sizes s) (low : (level : ℕ) → poolAt s level < 2 ^
 
   clears : (everyTask (λ k. clearTask (unitsOf s k) (taskAt s k)) ≡ true) × (everyRequest (λ r. clearRequest (requestAt s r)) ≡ true)
       × (blankTask (taskAt s 0) ≡ true) × (blankRequest (requestAt s 0) ≡ true) × (eqb (poolAt s 0) 0 ≡ true)
-  unfolding stateRules clear
+  unfolding stateRules fieldsClear
   clears =
       let a = both _ _ (each-at (stateRules s) e 6) in
       let b = both _ _ (a .0) in
@@ -96,10 +96,10 @@ module _ (s : State) (z : Sizes s) (low : (level : ℕ) → poolAt s level < 2 ^
         block = no-task;
         request = no-request;
         pool = eqb-true _ 0 (clears .4);
-        idle = ltb-true _ _ (sets .2);
-        idle-none = bit-of (s .idle) 0 (not-true _ (sets .3));
-        spare = ltb-true _ _ (sets .4);
-        spare-none = bit-of (s .spare) 0 (not-true _ (sets .5));
+        freeTasks = ltb-true _ _ (sets .2);
+        freeTasks-none = bit-of (s .freeTasks) 0 (not-true _ (sets .3));
+        freeRequests = ltb-true _ _ (sets .4);
+        freeRequests-none = bit-of (s .freeRequests) 0 (not-true _ (sets .5));
         running = leb-true _ _ (ranges .0);
         channel = leb-true _ _ (ranges .1);
         on = λ v. and-within v (s .on) (s .directory .defined) (eqb-true _ _ (not-false _ (not-true _ (each-at (stateRules s) e 2))));
@@ -144,7 +144,7 @@ module _ (s : State) (z : Sizes s) (low : (level : ℕ) → poolAt s level < 2 ^
           fields = fields;
           queued = in-queue;
           runs = task-placed s k u placed .1;
-          idle = set-of (s .idle) (taskAt s k .place) Free k (all-to (λ k. Bool·beq (has (s .idle) k) (eqb (taskAt s k .place) Free)) 24 (sets .0) k a b);
+          freeTasks = set-of (s .freeTasks) (taskAt s k .place) Free k (all-to (λ k. Bool·beq (has (s .freeTasks) k) (eqb (taskAt s k .place) Free)) 24 (sets .0) k a b);
           checks = λ i. pending-of s k (taskAt s k .request) (request-some i) request-low (checked i);
           ends = λ i. pending-some s k (implied (eqb (taskAt s k .place) Ending) (pending s k)
               (all-to (λ k. eqb (taskAt s k .place) Ending implies pending s k) 24 (each-at (stateRules s) e 19) k a b) (eq-eqb _ _ i));
@@ -155,7 +155,7 @@ module _ (s : State) (z : Sizes s) (low : (level : ℕ) → poolAt s level < 2 ^
   unfolding stateRules requestsInPlace owned
   carried r a b =
       carried-of s r no-task u (all-to (λ r. requestInRange (requestAt s r)) 16 (ranges .3) r a b) (all-to (λ r. clearRequest (requestAt s r)) 16 (clears .1) r a b)
-      (all-to (λ r. requestPlace s r) 16 (each-at (stateRules s) e 4) r a b) (all-to (λ r. Bool·beq (has (s .spare) r) (eqb (requestAt s r .place) Free)) 16 (sets .1) r a b)
+      (all-to (λ r. requestPlace s r) 16 (each-at (stateRules s) e 4) r a b) (all-to (λ r. Bool·beq (has (s .freeRequests) r) (eqb (requestAt s r .place) Free)) 16 (sets .1) r a b)
       (all-to (λ r. ownedAt s r) 16 (each-at (stateRules s) e 17) r a b)
 
   inside : (k : ℕ) → k < length (s .tasks) → taskAt s k .core ≡ 1 → taskAt s k .start + unitsOf s k ≤ 64

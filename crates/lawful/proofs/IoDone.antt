@@ -18,8 +18,8 @@ use Rattle.tables.specs.Blocks.{Running, InLink, InCheck, Ending, Queued, OnCha
 use Rattle.calls.specs.declared.Call.{Call}
 use Rattle.meaning.specs.Ready.{madeReady}
 use Rattle.meaning.specs.Finish.{freedRequest, pending, finished}
-use Rattle.meaning.specs.Channel.{started, channelLevel}
-use Rattle.meaning.specs.Services.{transferred}
+use Rattle.meaning.specs.Channel.{channelFilled, channelLevel}
+use Rattle.meaning.specs.Services.{ioDone}
 use Rattle.lawful.specs.Shape.{Hand, placeOf, Pending, Carried, Shape, InHand}
 use Rattle.lawful.specs.Resting.{Rest, Lawful, Settled}
 use Rattle.lawful.proofs.Shape.{one-same, one-other, one-eq, held-place, rest-place}
@@ -69,7 +69,7 @@ abbrev pub over : State → Request
 over s = let q = requestAt s (s .channel) in request Done q.owner q.device q.command q.bytes
 
 abbrev pub off : State → State
-off s = asking s (s .channel) (over s) 0 (s .spare) (s .queues)
+off s = asking s (s .channel) (over s) 0 (s .freeRequests) (s .queues)
 
 module _ {s : State} (n : s .channel ≢ 0) where
   module _ {h : List ℕ} {e : ℕ} (g : Shape s h e) where
@@ -104,9 +104,9 @@ module _ {s : State} (n : s .channel ≢ 0) where
           bound = omega arith;
           runs = one-other 0 (s .channel) (λ z. n (sym z)) ∙ sym (one-other Done OnChannel (λ i. omega (arith, i)));
           run-others = λ y a d. one-other 0 y (λ z. omega (arith, z, a)) ∙ sym (one-other (s .channel) y (λ z. d (sym z)));
-          spares = g .blank .spare;
-          spare = was .spare ∙ one-other _ 0 (λ i. omega (arith, i, on)) ∙ sym (one-other Done 0 (λ i. omega (arith, i)));
-          spare-others = λ y d. refl;
+          requestsFree = g .blank .freeRequests;
+          freeRequests = was .freeRequests ∙ one-other _ 0 (λ i. omega (arith, i, on)) ∙ sym (one-other Done 0 (λ i. omega (arith, i)));
+          freeRequests-others = λ y d. refl;
           checks = λ y a b i. pending-kept (s .channel) (over s) (f y a b i) (g .tasks y a b .checks i);
           ends = t;
           levelled = ap (λ (k : ℕ → ℕ). upBy k (queue s channelQueue)) (fun-ext (λ i. ap (levelOf s) (owner-kept (requestOf i)))) ∙ g .levelled;
@@ -145,14 +145,14 @@ module _ {s : State} (n : s .channel ≢ 0) where
 -- ---- The rules of rest, while the channel is empty.
 pub excused : {s : State} → Lawful s → (n : s .channel ≢ 0) → Rest (off s) (0 ∷ [])
 excused {s} g n =
-    let a = rest-asking {s = s} {m = []} (s .channel) (over s) 0 (s .spare) (s .queues) (λ q d. refl) (record { asleep = g .rest .asleep; stuck = g .rest .stuck }) in
+    let a = rest-asking {s = s} {m = []} (s .channel) (over s) 0 (s .freeRequests) (s .queues) (λ q d. refl) (record { asleep = g .rest .asleep; stuck = g .rest .stuck }) in
     record {
       asleep = record { asleep = λ y c z. a .asleep .asleep y c (count-nil y) };
       stuck = a .stuck;
       flowing = record { flowing = λ x. absurd (omega (arith, x, count-cons 0 0 [], one-same 0 0 refl)) };
     }
 
-pub resumed : {s : State} → Shape s [] 0 → Rest s (0 ∷ []) → Settled (started s)
+pub resumed : {s : State} → Shape s [] 0 → Rest s (0 ∷ []) → Settled (channelFilled s)
 resumed {s} g r =
     let w = starts g (record {
       asleep = record { asleep = λ y c z. r .asleep .asleep y c (omega (arith, count-cons 0 y [], count-nil y, one-other 0 y (λ i. omega (arith, c, g .none eventQueue, ap (λ (x : ℕ). count x (queue s eventQueue)) i)))) };
@@ -189,18 +189,18 @@ module _ {s : State} (g : Lawful s) (n : s .channel ≢ 0) where
   k = requestAt s (s .channel) .owner
 
   -- its owner waits on it in CHECK
-  checked : taskAt s k .place ≡ InCheck → Settled (started (madeReady (freedRequest (off s) (s .channel)) k))
+  checked : taskAt s k .place ≡ InCheck → Settled (channelFilled (madeReady (freedRequest (off s) (s .channel)) k))
   checked p =
       let i = freed-hand g n (omega (arith, p)) in
       let d = made-ready i in
       resumed (d .shape) (rest-made i d (freed-rest g n))
 
   -- its owner is ending, and this was the last
-  ended-now : taskAt s k .place ≡ Ending → pending (off s) k ≡ false → Settled (started (finished (freedRequest (off s) (s .channel)) k))
+  ended-now : taskAt s k .place ≡ Ending → pending (off s) k ≡ false → Settled (channelFilled (finished (freedRequest (off s) (s .channel)) k))
   ended-now p q = let f = freed-finishes g n p q in resumed (f .shape) (f .rest)
 
   -- otherwise
-  marked : (taskAt s k .place ≡ InCheck → taskAt s k .request ≢ s .channel) → (taskAt s k .place ≡ Ending → pending (off s) k ≡ true) → Settled (started (off s))
+  marked : (taskAt s k .place ≡ InCheck → taskAt s k .request ≢ s .channel) → (taskAt s k .place ≡ Ending → pending (off s) k ≡ true) → Settled (channelFilled (off s))
   marked c t =
       let v = g .shape in
       resumed
@@ -219,8 +219,8 @@ module _ {s : State} (g : Lawful s) (n : s .channel ≢ 0) where
       (tested (p .0) (s .channel))))
       (excused g n)
 
-pub transferred-keeps : {s : State} (c : Call) → Lawful s → s .channel ≢ 0 → Settled (transferred s c .state)
-unfolding transferred
+pub transferred-keeps : {s : State} (c : Call) → Lawful s → s .channel ≢ 0 → Settled (ioDone s c .state)
+unfolding ioDone
 transferred-keeps {s} c g n =
     ⊎-elim
     (λ a.
@@ -232,7 +232,7 @@ transferred-keeps {s} c g n =
     (tested (taskAt s (owner s) .place) InCheck)
   where
     rest-of : (taskAt s (owner s) .place ≡ InCheck → taskAt s (owner s) .request ≢ s .channel)
-        → Settled (started (if eqb (taskAt s (owner s) .place) Ending && not (pending (off s) (owner s)) then finished (freedRequest (off s) (s .channel)) (owner s) else off s))
+        → Settled (channelFilled (if eqb (taskAt s (owner s) .place) Ending && not (pending (off s) (owner s)) then finished (freedRequest (off s) (s .channel)) (owner s) else off s))
     rest-of f =
         ⊎-elim
         (λ e. rw (e .0) (go e (pending (off s) (owner s)) refl))
@@ -240,6 +240,6 @@ transferred-keeps {s} c g n =
         (tested (taskAt s (owner s) .place) Ending)
       where
         go : (eqb (taskAt s (owner s) .place) Ending ≡ true) × (taskAt s (owner s) .place ≡ Ending) → (b : Bool) → pending (off s) (owner s) ≡ b
-            → Settled (started (if not b then finished (freedRequest (off s) (s .channel)) (owner s) else off s))
+            → Settled (channelFilled (if not b then finished (freedRequest (off s) (s .channel)) (owner s) else off s))
         go e true q = marked g n f (λ z. q)
         go e false q = ended-now g n (e .1) q

@@ -13,7 +13,7 @@ use Rattle.tables.specs.State.{State}
 use Rattle.calls.specs.declared.Call.{Call}
 use Rattle.calls.specs.Calls.{known, needsTask}
 use Rattle.meaning.specs.Ready.{dispatched}
-use Rattle.meaning.specs.Services.{Effect, effect, start, transfer}
+use Rattle.meaning.specs.Services.{Effect, effect, operatorStart, readOrWrite}
 use Rattle.lawful.specs.Resting.{Lawful, Settled}
 use Rattle.lawful.specs.Accepts.{Accepts}
 use Rattle.lawful.proofs.Dispatch.{dispatch}
@@ -40,12 +40,12 @@ module _ {s : State} {c : Call} (g : Lawful s) (a : Accepts s c) where
   pub one-of : (l : List ℕ) (n : ℕ) → n among l ≡ true → c .code ≡ n → c .code among l ≡ true
   one-of l n e z = ap (λ (x : ℕ). x among l) z ∙ e
 
-  transfers : (n : ℕ) → n among (13 ∷ 14 ∷ []) ≡ true → (13 ≤ n) × (n ≤ 14) → needsTask n ≡ true → c .code ≡ n → Settled (transfer s c .state)
+  transfers : (n : ℕ) → n among (13 ∷ 14 ∷ []) ≡ true → (13 ≤ n) × (n ≤ 14) → needsTask n ≡ true → c .code ≡ n → Settled (readOrWrite s c .state)
   transfers n e b t z =
       let o = one-of (13 ∷ 14 ∷ []) n e z in
-      transfer-keeps c g (needs n t z) (a .spare o) (a .device o) (rw z b) (a .bytes o .0)
+      transfer-keeps c g (needs n t z) (a .freeRequests o) (a .device o) (rw z b) (a .bytes o .0)
 
-  starts : c .code among (5 ∷ 7 ∷ 35 ∷ []) ≡ true → Settled (start s c .state)
+  starts : c .code among (5 ∷ 7 ∷ 35 ∷ []) ≡ true → Settled (operatorStart s c .state)
   starts o = start-keeps c g (a .program o) (a .block o)
 
   no : (n : ℕ) → c .code ≢ n → eqb n (c .code) ≡ false

@@ -67,9 +67,9 @@ module _ {s : State} {k : ℕ} {h : List ℕ} {e : ℕ} (i : InHand s k h e) (p 
       rest-alone {s = s} {k = k} refl refl refl refl refl (λ y d. getD-set-other (s .tasks) k y _ noTask d) (hand-count i) r
 
 -- ---- LINK.
-module _ {s : State} (g : Lawful s) (m : ℕ) (known : m < s .directory .modules) (some : s .idle ≢ 0) (n : s .running ≢ 0) where
+module _ {s : State} (g : Lawful s) (m : ℕ) (known : m < s .directory .modules) (some : s .freeTasks ≢ 0) (n : s .running ≢ 0) where
   abbrev k : ℕ
-  k = least (s .idle)
+  k = least (s .freeTasks)
 
   -- the caller is not the block that is free
   pub caller-apart : s .running ≢ k
@@ -78,11 +78,11 @@ module _ {s : State} (g : Lawful s) (m : ℕ) (known : m < s .directory .modules
       let r = runs-stands (g .shape) n in
       omega (
         arith,
-        r .idle,
+        r .freeTasks,
         ap (λ (x : ℕ). one x Free) (runs-place (g .shape) n),
         one-other Running Free (λ z. omega (arith, z)),
-        least-in (s .idle) 25 (omega arith) (b .idle) some (b .idle-none),
-        ap (bit (s .idle)) z,
+        least-in (s .freeTasks) 25 (omega arith) (b .freeTasks) some (b .freeTasks-none),
+        ap (bit (s .freeTasks)) z,
       )
 
   abbrev child : State
@@ -126,6 +126,6 @@ module _ {s : State} (g : Lawful s) (m : ℕ) (known : m < s .directory .modules
   pub link-settled : Settled (madeReady (stopped child InLink) k)
   link-settled = let d = made-ready linked in settled (d .shape) (rest-made linked d linked-rest)
 
-pub link-keeps : {s : State} (c : Call) → Lawful s → c .number < s .directory .modules → s .idle ≢ 0 → s .running ≢ 0 → Settled (link s c .state)
+pub link-keeps : {s : State} (c : Call) → Lawful s → c .number < s .directory .modules → s .freeTasks ≢ 0 → s .running ≢ 0 → Settled (link s c .state)
 unfolding link
 link-keeps c g known some n = link-settled g (c .number) known some n

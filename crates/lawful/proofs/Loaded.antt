@@ -34,13 +34,13 @@ module _ {ℓ} {A : Type ℓ} (x : A) where
   sum-alike f zero e = refl
   sum-alike f (suc n) e = omega (arith, e, sum-alike f n e)
 
-all-idle : allOf (λ k. eqb (bit (2 ^ 25 - 2) k) 1) (oneTo 24) ≡ true
+all-freeTasks : allOf (λ k. eqb (bit (2 ^ 25 - 2) k) 1) (oneTo 24) ≡ true
 unfolding allOf oneTo
-all-idle = refl
+all-freeTasks = refl
 
-all-spare : allOf (λ k. eqb (bit (2 ^ 17 - 2) k) 1) (oneTo 16) ≡ true
+all-freeRequests : allOf (λ k. eqb (bit (2 ^ 17 - 2) k) 1) (oneTo 16) ≡ true
 unfolding allOf oneTo
-all-spare = refl
+all-freeRequests = refl
 
 module _ (d : Directory) (p : Passing d) where
   empty : (q : ℕ) → queue (loaded d) q ≡ []
@@ -68,7 +68,7 @@ module _ (d : Directory) (p : Passing d) where
         fields = rw (blank y) (free-fields d);
         queued = λ q l. nowhere q y ∙ sym (one-other 9 q (λ z. omega (arith, z, l)));
         runs = one-other 0 y (λ z. omega (arith, z, a)) ∙ sym (one-other Free Running (λ z. omega (arith, z)));
-        idle = eqb-true (bit (2 ^ 25 - 2) y) 1 (all-to (λ k. eqb (bit (2 ^ 25 - 2) k) 1) 24 all-idle y a b) ∙ sym (one-same Free Free refl);
+        freeTasks = eqb-true (bit (2 ^ 25 - 2) y) 1 (all-to (λ k. eqb (bit (2 ^ 25 - 2) k) 1) 24 all-freeTasks y a b) ∙ sym (one-same Free Free refl);
         checks = λ z. absurd (omega (arith, z));
         ends = λ z. absurd (omega (arith, z));
       })
@@ -85,7 +85,7 @@ module _ (d : Directory) (p : Passing d) where
         others = λ q l. nowhere q (node r);
         queued = nowhere channelQueue (node r) ∙ sym (rw o (one-other 0 Queued (λ z. omega (arith, z))));
         runs = one-other 0 r (λ z. omega (arith, z, a)) ∙ sym (rw o (one-other 0 OnChannel (λ z. omega (arith, z))));
-        spare = eqb-true (bit (2 ^ 17 - 2) r) 1 (all-to (λ k. eqb (bit (2 ^ 17 - 2) k) 1) 16 all-spare r a b) ∙ sym (rw o (one-same 0 0 refl));
+        freeRequests = eqb-true (bit (2 ^ 17 - 2) r) 1 (all-to (λ k. eqb (bit (2 ^ 17 - 2) k) 1) 16 all-freeRequests r a b) ∙ sym (rw o (one-same 0 0 refl));
       }
 
   shape : Shape (loaded d) [] 0
@@ -98,10 +98,10 @@ module _ (d : Directory) (p : Passing d) where
           block = refl;
           request = refl;
           pool = refl;
-          idle = omega arith;
-          idle-none = refl;
-          spare = omega arith;
-          spare-none = refl;
+          freeTasks = omega arith;
+          freeTasks-none = refl;
+          freeRequests = omega arith;
+          freeRequests-none = refl;
           running = omega arith;
           channel = omega arith;
           on = λ v. omega (arith, bit-none v);

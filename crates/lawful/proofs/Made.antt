@@ -18,7 +18,7 @@ use Rattle.tables.specs.declared.Task.{Task}
 use Rattle.tables.specs.State.{State, eventQueue, timeQueue, channelQueue, coreQueue, taskAt, poolAt, queue, levelOf, unitsOf, joining}
 use Rattle.tables.specs.Blocks.{Free, Running, Ready, InCore, InEvent, InTime, InLink, InCheck, Ending, noTask, task}
 use Rattle.pools.specs.Pools.{startOf}
-use Rattle.meaning.specs.Ready.{placed, startFor, fits, needsCore, granted, readied, awaitsCore, madeReady}
+use Rattle.meaning.specs.Ready.{placed, startFor, fits, needsCore, givenRun, readied, awaitsCore, madeReady}
 use Rattle.meaning.specs.Conditions.{enough}
 use Rattle.meaning.specs.Rules.{queueFor}
 use Rattle.lawful.specs.Shape.{Hand, placeOf, moduleOf, Fields, Shape, InHand}
@@ -160,8 +160,8 @@ module _ {s : State} {k : ℕ} {h : List ℕ} {e : ℕ} (i : InHand s k h e) whe
         on = s .on;
         running = s .running;
         channel = s .channel;
-        idle = s .idle;
-        spare = s .spare;
+        freeTasks = s .freeTasks;
+        freeRequests = s .freeRequests;
         pools = p;
         tasks = set (s .tasks) k x;
         requests = s .requests;
@@ -208,8 +208,8 @@ module _ {s : State} {k : ℕ} {h : List ℕ} {e : ℕ} (i : InHand s k h e) whe
   unfolding readied
   ready-core level a b = set-others (s .queues) (levelOf s k) _ (i .shape .sizes .queues) (omega (arith, worst)) (coreQueue level) (λ z. omega (arith, z, worst))
 
-  granted-core-queue : (level : ℕ) → queue (granted s k) (coreQueue level) ≡ queue s (coreQueue level)
-  unfolding granted
+  granted-core-queue : (level : ℕ) → queue (givenRun s k) (coreQueue level) ≡ queue s (coreQueue level)
+  unfolding givenRun
   granted-core-queue level = refl
 
   pub awaits : needsCore s k ≡ true → (queue s (coreQueue (levelOf s k)) ≡ [] → 64 ≤ startFor s k) → Made s (awaitsCore s k) k h e
@@ -236,8 +236,8 @@ module _ {s : State} {k : ℕ} {h : List ℕ} {e : ℕ} (i : InHand s k h e) whe
       first level z g j l [] d c = let b : k ≡ j = ap hd c in rw (z, ← b) (f d)
       first level z g j l (a ∷ m) d c = let b : a ≡ j = ap hd c in rw (← b) (g .stuck a m (ap (λ (y : ℕ). queue s (coreQueue y)) z ∙ d))
 
-  granted-frame : Frame s (granted s k) k
-  unfolding granted
+  granted-frame : Frame s (givenRun s k) k
+  unfolding givenRun
   granted-frame =
       record {
         directory = refl;
@@ -254,13 +254,13 @@ module _ {s : State} {k : ℕ} {h : List ℕ} {e : ℕ} (i : InHand s k h e) whe
         requested = refl;
       }
 
-  granted-core : taskAt (granted s k) k .core ≡ 1
-  unfolding granted
+  granted-core : taskAt (givenRun s k) k .core ≡ 1
+  unfolding givenRun
   granted-core = ap (λ (t : Task). t .core) (getD-set-same (s .tasks) k _ noTask (omega (arith, i .shape .sizes .tasks, i .low)))
 
   -- a level whose pool is another's, or for which nobody waits
-  granted-stuck : (level : ℕ) → (level ≡ levelOf s k → queue s (coreQueue level) ≡ []) → Stuck s level → Stuck (granted s k) level
-  unfolding granted
+  granted-stuck : (level : ℕ) → (level ≡ levelOf s k → queue s (coreQueue level) ≡ []) → Stuck s level → Stuck (givenRun s k) level
+  unfolding givenRun
   granted-stuck level f g =
       ⊎-elim
       (λ z. record { stuck = λ j l d. absurd (true≢false (ap isEmpty (sym (f (z .1)) ∙ d))) })
@@ -275,11 +275,11 @@ pub record Seated (s s′ : State) (k : ℕ) (h : List ℕ) (e : ℕ) : Type 0 w
   pub waiting : (level : ℕ) → 1 ≤ level → level ≤ 3 → queue s′ (coreQueue level) ≡ queue s (coreQueue level)
 
 module _ {s : State} {k : ℕ} {h : List ℕ} {e : ℕ} (i : InHand s k h e) where
-  pub seats : needsCore s k ≡ true → startFor s k < 64 → Seated s (readied (granted s k) k) k h e
+  pub seats : needsCore s k ≡ true → startFor s k < 64 → Seated s (readied (givenRun s k) k) k h e
   seats n f =
       let c = needs-true s k n in
       let g = grant (i .shape) (i .some) (i .low) (held-place s h k) (c .0) (c .1) f in
-      let j : InHand (granted s k) k h e = record { some = i .some; low = i .low; out = i .out; shape = g } in
+      let j : InHand (givenRun s k) k h e = record { some = i .some; low = i .low; out = i .out; shape = g } in
       let r = ready j (λ a b. omega (arith, b, granted-core i)) in
       record {
         shape = r .shape;
@@ -294,7 +294,7 @@ module _ {s : State} {k : ℕ} {h : List ℕ} {e : ℕ} (i : InHand s k h e) whe
   made-ready = go (needsCore s k) refl (queue s (coreQueue (levelOf s k))) refl (ltb (startFor s k) 64) refl
     where
       go : (b : Bool) → needsCore s k ≡ b → (l : List ℕ) → queue s (coreQueue (levelOf s k)) ≡ l → (c : Bool) → ltb (startFor s k) 64 ≡ c
-          → Made s (cond b (cond (not (isEmpty l) || not c) (awaitsCore s k) (readied (granted s k) k)) (readied s k)) k h e
+          → Made s (cond b (cond (not (isEmpty l) || not c) (awaitsCore s k) (readied (givenRun s k) k)) (readied s k)) k h e
       go false n l q c f = ready i (needs-false s k n)
       go true n [] q false f = awaits i n (λ z. ltb-false _ _ f)
       go true n [] q true f =

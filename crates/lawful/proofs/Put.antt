@@ -27,7 +27,7 @@ module _ (s : State) (k p n v m w : ℕ) where
 
   abbrev pub putting : List (List ℕ) → ℕ → State
   putting l r =
-      state s.directory s.clock s.on r s.channel s.idle s.spare s.pools (set (s .tasks) k block) s.requests l
+      state s.directory s.clock s.on r s.channel s.freeTasks s.freeRequests s.pools (set (s .tasks) k block) s.requests l
 
   -- what is asked of the place p, of the queues l that come of it, and of the number r of the task that runs
   pub record Puts (l : List (List ℕ)) (r : ℕ) (h : List ℕ) (e e′ : ℕ) : Type 0 where
@@ -76,8 +76,8 @@ module _ (s : State) (k p n v m w : ℕ) where
           fields = rw put-same (u .fields);
           queued = λ q z. u .own q z ∙ sym (ap (λ (t : Task). one (queueFor p (moduleOf (s .directory) t .level)) q) put-same);
           runs = u .runs;
-          idle =
-              g .tasks k (u .some) (u .low) .idle ∙ ap (λ (i : ℕ). one i Free) (held-place s h k)
+          freeTasks =
+              g .tasks k (u .some) (u .low) .freeTasks ∙ ap (λ (i : ℕ). one i Free) (held-place s h k)
               ∙ one-other Hand Free (λ z. omega (arith, z)) ∙ sym (one-other p Free (λ z. omega (arith, z, u .used)));
           checks = λ z. rw put-same (u .checks z);
           ends = u .ends;
@@ -96,7 +96,7 @@ module _ (s : State) (k p n v m w : ℕ) where
     pub put : Shape (putting l r) h e′
     unfolding holding
     put =
-        change s k (set (s .tasks) k block) r (s .idle) (s .pools) l g (record {
+        change s k (set (s .tasks) k block) r (s .freeTasks) (s .pools) l g (record {
           some = u .some;
           low = u .low;
           own = put-own;
@@ -105,12 +105,12 @@ module _ (s : State) (k p n v m w : ℕ) where
           hands = λ y d. sym (past-hand k y h d);
           queues = u .others;
           runs = u .run-others;
-          idle = λ y d. refl;
+          freeTasks = λ y d. refl;
           long = length-set (s .tasks) k block ∙ g .sizes .tasks;
           nine = u .nine;
           four = g .sizes .pools;
           running = u .bound;
-          idles = g .blank .idle;
+          tasksFree = g .blank .freeTasks;
           pool = g .blank .pool;
           core = core-kept k block (g .core) (λ level i. refl);
           links = put-links;

@@ -11,7 +11,7 @@ use lib.Dec.{leb, ltb}
 use borrow.Author.Tests.{leb-true, le-leb, ltb-true, ltb-false}
 use Rattle.threads.specs.Threads.{count, counts, without}
 use Rattle.threads.proofs.Lists.{tested, count-nil, count-append, count-hit, count-past}
-use Rattle.words.specs.Words.{upBy, placedBy}
+use Rattle.words.specs.Words.{upBy, insertedBy}
 use Rattle.lawful.specs.Shape.{one}
 use Rattle.lawful.proofs.Truth.{both}
 use Rattle.lawful.proofs.Shape.{one-same, one-or}
@@ -23,14 +23,14 @@ count-cons k y l = ⊎-elim (λ t. count-hit k y l (t .0) ∙ ap (λ (i : ℕ). 
 pub count-last : (k y : ℕ) (l : List ℕ) → count y (l ++ k ∷ []) ≡ count y l + one k y
 count-last k y l = omega (arith, count-append y l (k ∷ []), count-cons k y [], count-nil y)
 
-pub count-placed : (key : ℕ → ℕ) (k y : ℕ) (l : List ℕ) → count y (placedBy key k l) ≡ count y l + one k y
-unfolding placedBy
+pub count-placed : (key : ℕ → ℕ) (k y : ℕ) (l : List ℕ) → count y (insertedBy key k l) ≡ count y l + one k y
+unfolding insertedBy
 count-placed key k y [] = omega (arith, count-cons k y [], count-nil y)
 count-placed key k y (a ∷ l) = go (ltb (key k) (key a)) (count-placed key k y l)
   where
-    go : (b : Bool) → count y (placedBy key k l) ≡ count y l + one k y → count y (cond b (k ∷ a ∷ l) (a ∷ placedBy key k l)) ≡ count y (a ∷ l) + one k y
+    go : (b : Bool) → count y (insertedBy key k l) ≡ count y l + one k y → count y (cond b (k ∷ a ∷ l) (a ∷ insertedBy key k l)) ≡ count y (a ∷ l) + one k y
     go true ih = omega (arith, count-cons k y (a ∷ l))
-    go false ih = omega (arith, ih, count-cons a y (placedBy key k l), count-cons a y l)
+    go false ih = omega (arith, ih, count-cons a y (insertedBy key k l), count-cons a y l)
 
 pub count-without : (k y : ℕ) (l : List ℕ) → 1 ≤ count k l → count y (without k l) + one k y ≡ count y l
 unfolding without
@@ -91,21 +91,21 @@ module _ (f : ℕ → ℕ) where
   up-tail a [] e = refl
   up-tail a (b ∷ l) e = up-both a b l e .1
 
-  up-behind : (a k : ℕ) (l : List ℕ) → f a ≤ f k → upBy f (a ∷ l) ≡ true → upBy f (a ∷ placedBy f k l) ≡ true
-  unfolding placedBy
+  up-behind : (a k : ℕ) (l : List ℕ) → f a ≤ f k → upBy f (a ∷ l) ≡ true → upBy f (a ∷ insertedBy f k l) ≡ true
+  unfolding insertedBy
   up-behind a k [] h e = up-and a k [] h (up-one k)
   up-behind a k (c ∷ l) h e = go (ltb (f k) (f c)) refl (λ i. up-behind c k l i (up-both a c l e .1))
     where
-      go : (b : Bool) → ltb (f k) (f c) ≡ b → (f c ≤ f k → upBy f (c ∷ placedBy f k l) ≡ true) → upBy f (a ∷ cond b (k ∷ c ∷ l) (c ∷ placedBy f k l)) ≡ true
+      go : (b : Bool) → ltb (f k) (f c) ≡ b → (f c ≤ f k → upBy f (c ∷ insertedBy f k l) ≡ true) → upBy f (a ∷ cond b (k ∷ c ∷ l) (c ∷ insertedBy f k l)) ≡ true
       go true t ih = up-and a k (c ∷ l) h (up-and k c l (let z = ltb-true (f k) (f c) t in omega (arith, z)) (up-both a c l e .1))
-      go false t ih = up-and a c (placedBy f k l) (up-both a c l e .0) (ih (ltb-false _ _ t))
+      go false t ih = up-and a c (insertedBy f k l) (up-both a c l e .0) (ih (ltb-false _ _ t))
 
-  pub up-placed : (k : ℕ) (l : List ℕ) → upBy f l ≡ true → upBy f (placedBy f k l) ≡ true
-  unfolding placedBy
+  pub up-placed : (k : ℕ) (l : List ℕ) → upBy f l ≡ true → upBy f (insertedBy f k l) ≡ true
+  unfolding insertedBy
   up-placed k [] e = up-one k
   up-placed k (c ∷ l) e = go (ltb (f k) (f c)) refl
     where
-      go : (b : Bool) → ltb (f k) (f c) ≡ b → upBy f (cond b (k ∷ c ∷ l) (c ∷ placedBy f k l)) ≡ true
+      go : (b : Bool) → ltb (f k) (f c) ≡ b → upBy f (cond b (k ∷ c ∷ l) (c ∷ insertedBy f k l)) ≡ true
       go true t = up-and k c l (let z = ltb-true (f k) (f c) t in omega (arith, z)) e
       go false t = up-behind c k l (ltb-false _ _ t) e
 

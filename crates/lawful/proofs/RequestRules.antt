@@ -37,7 +37,7 @@ of-two-codes : (c : ℕ) → 13 ≤ c → c ≤ 14 → (eqb c 13 || eqb c 14) �
 of-two-codes c a b = ⊎-elim (λ z. rw (z .0)) (λ z. rw (z .0, eq-eqb c 14 (omega (arith, a, b, z .1)))) (tested c 13)
 
 module _ (s : State) (r : ℕ) (no-task : taskAt s 0 ≡ noTask) (u : Apart (s .queues)) (g : requestInRange (requestAt s r) ≡ true) (c : clearRequest (requestAt s r) ≡ true)
-    (p : requestPlace s r ≡ true) (f : Bool·beq (has (s .spare) r) (eqb (requestAt s r .place) Free) ≡ true) (o : ownedAt s r ≡ true) where
+    (p : requestPlace s r ≡ true) (f : Bool·beq (has (s .freeRequests) r) (eqb (requestAt s r .place) Free) ≡ true) (o : ownedAt s r ≡ true) where
   used-owner : 1 ≤ requestAt s r .place → taskAt s (requestAt s r .owner) .place ≢ Free
   used-owner z =
       unlike _ _ (implied (not (eqb (requestAt s r .place) Free)) (not (eqb (taskAt s (requestAt s r .owner) .place) Free)) o (not-eq (requestAt s r .place) Free (λ i. omega (arith, i, z))))
@@ -65,7 +65,7 @@ module _ (s : State) (r : ℕ) (no-task : taskAt s 0 ≡ noTask) (u : Apart (s .
         others = λ i n. l .0 .only i (omega (arith, n)) ∙ channel-others (q .place) i n;
         queued = l .0 .only channelQueue (omega arith) ∙ channel-own (q .place);
         runs = l .1;
-        spare = set-of (s .spare) (q .place) Free r f;
+        freeRequests = set-of (s .freeRequests) (q .place) Free r f;
       }
 
 -- ---- And back.
@@ -93,8 +93,8 @@ module _ (s : State) (r : ℕ) (w : Carried s [] r) where
   pub of-carried : length (s .queues) ≡ 9 → requestPlace s r ≡ true
   of-carried n = of-request-placed s r n (only-channel s r (w .others) (w .queued)) (w .runs)
 
-  pub of-spare : Bool·beq (has (s .spare) r) (eqb (requestAt s r .place) Free) ≡ true
-  of-spare = of-set (s .spare) (requestAt s r .place) Free r (w .spare)
+  pub of-freeRequests : Bool·beq (has (s .freeRequests) r) (eqb (requestAt s r .place) Free) ≡ true
+  of-freeRequests = of-set (s .freeRequests) (requestAt s r .place) Free r (w .freeRequests)
 
   pub of-owned : ownedAt s r ≡ true
   of-owned =

@@ -15,7 +15,7 @@ use Rattle.tables.specs.State.{State, channelQueue, eventQueue, coreQueue, read
 use Rattle.pools.specs.Pools.{startOf}
 use Rattle.meaning.specs.Conditions.{enough, undefinedIn}
 use Rattle.meaning.specs.Ready.{startFor, fits}
-use Rattle.meaning.specs.Rules.{busy, eventsWait, coreWaits, ofTheirLevel, channelBusy, eventsPass}
+use Rattle.meaning.specs.Rules.{idleOnlyIfNoneReady, eventsWait, coreWaits, ofTheirLevel, channelBusy, eventsPass}
 use Rattle.lawful.specs.Shape.{Shape}
 use Rattle.lawful.specs.Resting.{Flowing, Asleep, Stuck, Busy}
 use Rattle.lawful.proofs.Shape.{one-same}
@@ -27,8 +27,8 @@ use Rattle.lawful.proofs.Members.{member-stands, member-ready, member-c
 
 module _ (s : State) where
   -- "The processor is idle only if nothing is ready"
-  pub busy-of : busy s ≡ true → Busy s
-  unfolding busy
+  pub busy-of : idleOnlyIfNoneReady s ≡ true → Busy s
+  unfolding idleOnlyIfNoneReady
   busy-of e =
       record {
         busy = λ z level a b.
@@ -36,8 +36,8 @@ module _ (s : State) where
             (implied (eqb (s .running) 0) (allOf (λ level. isEmpty (queue s (readyQueue level))) (oneTo 3)) e (eq-eqb _ _ z)) level a b);
       }
 
-  pub of-busy : Busy s → busy s ≡ true
-  unfolding busy
+  pub of-busy : Busy s → idleOnlyIfNoneReady s ≡ true
+  unfolding idleOnlyIfNoneReady
   of-busy g =
       of-implied (eqb (s .running) 0) (allOf (λ level. isEmpty (queue s (readyQueue level))) (oneTo 3))
       (λ t. to-all (λ level. isEmpty (queue s (readyQueue level))) 3 (λ y a b. ap isEmpty (g .busy (eqb-true _ _ t) y a b)))

@@ -10,7 +10,7 @@ use Rattle.threads.proofs.Lists.{tested}
 use Rattle.words.specs.Words.{if_then_else_, _among_, has}
 use Rattle.tables.specs.State.{State}
 use Rattle.calls.specs.declared.Call.{Call}
-use Rattle.meaning.specs.Services.{Effect, freemain, link, end, schedule, wait, signal, testEvent, dispatchCheck, transfer, check, timer, transferred, programCheck, start, effect}
+use Rattle.meaning.specs.Services.{Effect, freemain, link, end, schedule, wait, signal, testEvent, dispatchCheck, readOrWrite, check, timer, ioDone, programCheck, operatorStart, effect}
 use Rattle.lawful.specs.Resting.{Lawful}
 use Rattle.lawful.specs.Accepts.{Accepts}
 use Rattle.lawful.proofs.Free.{least-some}
@@ -27,16 +27,16 @@ tells-some true = omega arith
 tells-some false = omega arith
 
 module _ {s : State} {c : Call} (g : Lawful s) (a : Accepts s c) where
-  starts-some : c .code among (5 ∷ 7 ∷ 35 ∷ []) ≡ true → 1 ≤ start s c .result
-  unfolding start
-  starts-some o = let b = g .shape .blank in least-some (s .idle) 25 (omega arith) (b .idle) (a .block o) (b .idle-none)
+  starts-some : c .code among (5 ∷ 7 ∷ 35 ∷ []) ≡ true → 1 ≤ operatorStart s c .result
+  unfolding operatorStart
+  starts-some o = let b = g .shape .blank in least-some (s .freeTasks) 25 (omega arith) (b .freeTasks) (a .block o) (b .freeTasks-none)
 
-  transfers-some : c .code among (13 ∷ 14 ∷ []) ≡ true → 1 ≤ transfer s c .result
-  unfolding transfer
-  transfers-some o = let b = g .shape .blank in least-some (s .spare) 17 (omega arith) (b .spare) (a .spare o) (b .spare-none)
+  transfers-some : c .code among (13 ∷ 14 ∷ []) ≡ true → 1 ≤ readOrWrite s c .result
+  unfolding readOrWrite
+  transfers-some o = let b = g .shape .blank in least-some (s .freeRequests) 17 (omega arith) (b .freeRequests) (a .freeRequests o) (b .freeRequests-none)
 
   each : Some (effect s c)
-  unfolding effect freemain link end schedule wait signal testEvent dispatchCheck check timer transferred programCheck start _among_
+  unfolding effect freemain link end schedule wait signal testEvent dispatchCheck check timer ioDone programCheck operatorStart _among_
   each =
       pick (c .code) 1 (λ z. record { some = omega arith }) (λ n1.
       pick (c .code) 5 (λ z. record { some = starts-some (one-of g a (5 ∷ 7 ∷ 35 ∷ []) 5 refl z) }) (λ n5.

@@ -11,7 +11,7 @@ use Rattle.threads.specs.declared.Threads.{Threads}
 use Rattle.threads.specs.Threads.{queuesOf, threaded}
 use Rattle.threads.proofs.Lists.{tested}
 use Rattle.threads.proofs.Read.{read-back, sound}
-use Rattle.words.specs.Words.{each-holds}
+use Rattle.words.specs.Words.{allTrue}
 use Rattle.words.specs.Rows.{firstOf}
 use Rattle.image.specs.Answer.{refusalOf}
 use Rattle.image.specs.Load.{directoryOf, loadOf}
@@ -43,7 +43,7 @@ nine-queues t e = length-map (t .first) _ ∙ e
 pub rules-tables : (t : Tables) → Typed t → rulesHold t ≡ true → LawfulTables t
 unfolding rulesHold
 rules-tables t y e =
-    let b = both (pointersSound (t .threads)) (each-holds (stateRules (read t))) e in
+    let b = both (pointersSound (t .threads)) (allTrue (stateRules (read t))) e in
     let n = nine-queues (t .threads) (y .queues) in
     let p = sound-of (t .threads) n (b .0) in
     record {
@@ -65,8 +65,8 @@ read-tabled {s} g =
       on = s .on;
       running = s .running;
       channel = s .channel;
-      idle = s .idle;
-      spare = s .spare;
+      freeTasks = s .freeTasks;
+      freeRequests = s .freeRequests;
       pools = s .pools;
       tasks = s .tasks;
       requests = s .requests;

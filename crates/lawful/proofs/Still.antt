@@ -12,7 +12,7 @@ use Rattle.lawful.proofs.Change.{stands-same}
 use lib.Dec.{eqb}
 
 abbrev pub timed-on : State → ℕ → ℕ → State
-timed-on s c o = state s.directory c o s.running s.channel s.idle s.spare s.pools s.tasks s.requests s.queues
+timed-on s c o = state s.directory c o s.running s.channel s.freeTasks s.freeRequests s.pools s.tasks s.requests s.queues
 
 still : {s : State} {h h′ : List ℕ} {e : ℕ} (c o : ℕ) → Shape s h e → ((y : ℕ) → placeOf s h′ y ≡ placeOf s h y) → ((v : ℕ) → bit o v ≤ bit (s .directory .defined) v)
     → Shape (timed-on s c o) h′ e
@@ -25,15 +25,15 @@ still {s} {h} {h′} {e} c o g p f =
         block = b .block;
         request = b .request;
         pool = b .pool;
-        idle = b .idle;
-        idle-none = b .idle-none;
-        spare = b .spare;
-        spare-none = b .spare-none;
+        freeTasks = b .freeTasks;
+        freeTasks-none = b .freeTasks-none;
+        freeRequests = b .freeRequests;
+        freeRequests-none = b .freeRequests-none;
         running = b .running;
         channel = b .channel;
         on = f;
       };
-      tasks = λ y a b. stands-same {s = s} (record { directory = refl; block = refl; queues = λ q z. refl; runs = refl; idle = refl; requests = refl }) (p y) (g .tasks y a b);
+      tasks = λ y a b. stands-same {s = s} (record { directory = refl; block = refl; queues = λ q z. refl; runs = refl; freeTasks = refl; requests = refl }) (p y) (g .tasks y a b);
       requests = λ i a b. let c = g .requests i a b in record {
         kind = c .kind;
         free = c .free;
@@ -42,7 +42,7 @@ still {s} {h} {h′} {e} c o g p f =
         others = c .others;
         queued = c .queued;
         runs = c .runs;
-        spare = c .spare;
+        freeRequests = c .freeRequests;
       };
       none = g .none;
       beyond = g .beyond;

@@ -41,7 +41,7 @@ held-fields f n =
 
 module _ (s : State) (k : ℕ) where
   abbrev pub taking : List (List ℕ) → ℕ → State
-  taking l r = state s.directory s.clock s.on r s.channel s.idle s.spare s.pools s.tasks s.requests l
+  taking l r = state s.directory s.clock s.on r s.channel s.freeTasks s.freeRequests s.pools s.tasks s.requests l
 
   pub record Takes (l : List (List ℕ)) (r : ℕ) (h : List ℕ) (e e′ : ℕ) : Type 0 where
     pub some : 1 ≤ k
@@ -74,14 +74,14 @@ module _ (s : State) (k : ℕ) where
           fields = held-fields (w .fields) (u .used);
           queued = λ q z. u .own q z ∙ sym (none-queued _ q z);
           runs = one-other r k (u .runs) ∙ sym (one-other Hand Running (λ z. omega (arith, z)));
-          idle = w .idle ∙ one-other _ Free (u .used) ∙ sym (one-other Hand Free (λ z. omega (arith, z)));
+          freeTasks = w .freeTasks ∙ one-other _ Free (u .used) ∙ sym (one-other Hand Free (λ z. omega (arith, z)));
           checks = λ z. absurd (omega (arith, z));
           ends = λ z. absurd (omega (arith, z));
         })
 
     pub take : Shape (taking l r) (k ∷ h) e′
     take =
-        change s k (s .tasks) r (s .idle) (s .pools) l g (record {
+        change s k (s .tasks) r (s .freeTasks) (s .pools) l g (record {
           some = u .some;
           low = u .low;
           own = taken;
@@ -90,12 +90,12 @@ module _ (s : State) (k : ℕ) where
           hands = λ y d. past-hand k y h d;
           queues = u .others;
           runs = u .run-others;
-          idle = λ y d. refl;
+          freeTasks = λ y d. refl;
           long = g .sizes .tasks;
           nine = u .nine;
           four = g .sizes .pools;
           running = u .bound;
-          idles = g .blank .idle;
+          tasksFree = g .blank .freeTasks;
           pool = g .blank .pool;
           core = g .core;
           links = λ y a b.

@@ -9,13 +9,13 @@ use native.Mathlib.Omega.{arith}
 use lib.Dec.{eqb}
 use borrow.Author.Tests.{eq-eqb, eqb-true, le-leb, lt-ltb, ne-eqb}
 use Rattle.threads.proofs.Lists.{tested}
-use Rattle.words.specs.Words.{_implies_, each-holds, has}
+use Rattle.words.specs.Words.{_implies_, allTrue, has}
 use Rattle.tables.specs.declared.Request.{Request}
 use Rattle.tables.specs.Blocks.{Free, InLink, InCheck, Ending}
 use Rattle.tables.specs.State.{State, taskAt, requestAt, poolAt, levelOf, unitsOf}
 use Rattle.meaning.specs.Conditions.{undefinedIn}
 use Rattle.meaning.specs.Finish.{pendingOf, pending}
-use Rattle.meaning.specs.Rules.{taskInRange, requestInRange, inRange, onDefined, tasksInPlace, requestsInPlace, freeSets, clearTask, clearRequest, clear, queuesInOrder, coreNeeded, owned, checksPending, endingPending, stateRules}
+use Rattle.meaning.specs.Rules.{taskInRange, requestInRange, inRange, onDefined, tasksInPlace, requestsInPlace, freeSets, clearTask, clearRequest, fieldsClear, queuesInOrder, coreNeeded, owned, checksPending, endingPending, stateRules}
 use Rattle.lawful.specs.Shape.{one, bit, children, Stands}
 use Rattle.lawful.specs.Resting.{Lawful}
 use Rattle.lawful.proofs.Shape.{one-other, rest-place}
@@ -24,7 +24,7 @@ use Rattle.lawful.proofs.Tests.{to-all, of-set}
 use Rattle.lawful.proofs.Blanks.{taskSum, requestSum, of-task-blank, of-request-blank}
 use Rattle.lawful.proofs.PlaceRules.{taskPlaced, requestPlace, of-task-placed}
 use Rattle.lawful.proofs.TaskRules.{neededAt, of-range, of-clear, of-needed}
-use Rattle.lawful.proofs.RequestRules.{ownedAt, of-request-range, of-request-clear, of-carried, of-spare, of-owned}
+use Rattle.lawful.proofs.RequestRules.{ownedAt, of-request-range, of-request-clear, of-carried, of-freeRequests, of-owned}
 use Rattle.lawful.proofs.CoreRules.{of-core, of-links}
 use Rattle.lawful.proofs.Chains.{of-ranked}
 use Rattle.lawful.proofs.RestRules.{of-busy, of-asleep, of-stuck, of-flowing, of-levels, of-passes}
@@ -33,15 +33,15 @@ use Rattle.lawful.proofs.Bits.{of-within}
 
 -- every test of a list, from the tests one by one
 record All (l : List Bool) : Type 0 where
-  all : each-holds l ≡ true
+  all : allTrue l ≡ true
 
 infixr 5 _also_
 _also_ : {b : Bool} {l : List Bool} → b ≡ true → All l → All (b ∷ l)
-unfolding each-holds
-_also_ {b} {l} e f = record { all = and-of b (each-holds l) e (f .all) }
+unfolding allTrue
+_also_ {b} {l} e f = record { all = and-of b (allTrue l) e (f .all) }
 
 no-more : All []
-unfolding each-holds
+unfolding allTrue
 no-more = record { all = refl }
 
 has-not : (w : ℕ) → bit w 0 ≡ 0 → not (has w 0) ≡ true
@@ -88,12 +88,12 @@ module _ {s : State} (g : Lawful s) where
   free-sets =
       let b = g .shape .blank in
       and-of _ _ (and-of _ _ (and-of _ _ (and-of _ _ (and-of _ _
-      (to-all (λ k. Bool·beq (has (s .idle) k) (eqb (taskAt s k .place) Free)) 24 (λ k a b. of-set (s .idle) (taskAt s k .place) Free k (stands k a b .idle)))
-      (to-all (λ r. Bool·beq (has (s .spare) r) (eqb (requestAt s r .place) Free)) 16 (λ r a b. of-spare s r (g .shape .requests r a b))))
-      (lt-ltb (s .idle) (2 ^ 25) (b .idle))) (has-not (s .idle) (b .idle-none))) (lt-ltb (s .spare) (2 ^ 17) (b .spare))) (has-not (s .spare) (b .spare-none))
+      (to-all (λ k. Bool·beq (has (s .freeTasks) k) (eqb (taskAt s k .place) Free)) 24 (λ k a b. of-set (s .freeTasks) (taskAt s k .place) Free k (stands k a b .freeTasks)))
+      (to-all (λ r. Bool·beq (has (s .freeRequests) r) (eqb (requestAt s r .place) Free)) 16 (λ r a b. of-freeRequests s r (g .shape .requests r a b))))
+      (lt-ltb (s .freeTasks) (2 ^ 25) (b .freeTasks))) (has-not (s .freeTasks) (b .freeTasks-none))) (lt-ltb (s .freeRequests) (2 ^ 17) (b .freeRequests))) (has-not (s .freeRequests) (b .freeRequests-none))
 
-  all-clear : clear s ≡ true
-  unfolding clear
+  all-clear : fieldsClear s ≡ true
+  unfolding fieldsClear
   all-clear =
       let b = g .shape .blank in
       and-of _ _
@@ -139,5 +139,5 @@ module _ {s : State} (g : Lawful s) where
       also of-ranked s (g .shape) also of-busy s (g .busy) also of-asleep s (g .rest .asleep) also of-stuck (g .shape) (g .rest .stuck) also in-order also of-levels (g .shape)
       also core-needed also of-passes (g .shape) also of-links s n b all-linked also all-owned also checks also endings also of-flowing s (g .rest .flowing) also no-more
 
-  pub lawful-rules : each-holds (stateRules s) ≡ true
+  pub lawful-rules : allTrue (stateRules s) ≡ true
   lawful-rules = every-rule .all

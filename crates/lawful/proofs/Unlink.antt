@@ -75,7 +75,7 @@ module _ {s : State} {h : List ℕ} {e : ℕ} (g : Shape s h e) (k : ℕ) (some 
         });
         queued = λ q n. w .queued q n ∙ sym (ap (λ (b : ℕ). one (queueFor (placeOf s h k) b) q) (lone-level k));
         runs = w .runs;
-        idle = w .idle;
+        freeTasks = w .freeTasks;
         checks = λ p. rw (kept (λ t. t .request) refl k) (w .checks p);
         ends = w .ends;
       })
@@ -96,7 +96,7 @@ module _ {s : State} {h : List ℕ} {e : ℕ} (g : Shape s h e) (k : ℕ) (some 
   pub unlink : Shape (unlinked s k) h 0
   unfolding unlinked holding
   unlink =
-      change s k (set (s .tasks) k lone) (s .running) (s .idle) (s .pools) (s .queues) g (record {
+      change s k (set (s .tasks) k lone) (s .running) (s .freeTasks) (s .pools) (s .queues) g (record {
         some = some;
         low = low;
         own = lone-own;
@@ -105,12 +105,12 @@ module _ {s : State} {h : List ℕ} {e : ℕ} (g : Shape s h e) (k : ℕ) (some 
         hands = λ y d. refl;
         queues = λ q y d. refl;
         runs = λ y a d. refl;
-        idle = λ y d. refl;
+        freeTasks = λ y d. refl;
         long = length-set (s .tasks) k lone ∙ g .sizes .tasks;
         nine = g .sizes .queues;
         four = g .sizes .pools;
         running = g .blank .running;
-        idles = g .blank .idle;
+        tasksFree = g .blank .freeTasks;
         pool = g .blank .pool;
         core = core-kept k lone (g .core) (λ level u. refl);
         links = lone-links;

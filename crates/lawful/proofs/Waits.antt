@@ -10,7 +10,7 @@ use lib.Seq.{getD-set-same, getD-set-other}
 use lib.Bits.{bitAnd}
 use Rattle.threads.specs.Threads.{count}
 use Rattle.threads.proofs.Lists.{tested}
-use Rattle.words.specs.Words.{placedBy, size}
+use Rattle.words.specs.Words.{insertedBy, size}
 use Rattle.image.specs.declared.Directory.{Directory}
 use Rattle.image.specs.Directory.{noEntry}
 use Rattle.tables.specs.declared.Task.{Task}
@@ -88,7 +88,7 @@ module _ {s : State} {k : ℕ} {h : List ℕ} {e : ℕ} (i : InHand s k h e) whe
     unfolding queueFor inTime
     await-time =
         let key : ℕ → ℕ = λ a. taskAt (withTask s k (awaitingTime (taskAt s k) x)) a .time in
-        let l = placedBy key k (queue s timeQueue) in
+        let l = insertedBy key k (queue s timeQueue) in
         enter i InTime 0 0 x 0 timeQueue l (omega arith) refl (λ y. count-placed key k y (queue s timeQueue)) (time-fields (hand-stands i .fields)) (omega arith)
         (rw (set-queue (s .queues) timeQueue l nine (omega arith))
         (up-placed key k (queue s timeQueue)
@@ -100,7 +100,7 @@ module _ {s : State} {k : ℕ} {h : List ℕ} {e : ℕ} (i : InHand s k h e) whe
     pub time-rest : {m : List ℕ} → Rest s m → Rest (inTime (withTask s k (awaitingTime (taskAt s k) x)) k) m
     unfolding inTime
     time-rest r =
-        let l = placedBy (λ a. taskAt (withTask s k (awaitingTime (taskAt s k) x)) a .time) k (queue s timeQueue) in
+        let l = insertedBy (λ a. taskAt (withTask s k (awaitingTime (taskAt s k) x)) a .time) k (queue s timeQueue) in
         let set = set-others (s .queues) timeQueue l nine (omega arith) in
         rest-beside {s = s} {k = k} (record {
           directory = refl;

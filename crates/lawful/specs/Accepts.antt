@@ -22,12 +22,12 @@ pub record Accepts (s : State) (c : Call) : Type 0 where
   pub known : known (c .code) ≡ true
   pub running : needsTask (c .code) ≡ true → s .running ≢ 0
   pub program : starts c ≡ true → c .number < s .directory .modules
-  pub block : starts c ≡ true → s .idle ≢ 0
+  pub block : starts c ≡ true → s .freeTasks ≢ 0
   pub event : tellsEvents c ≡ true → (c .number ≤ 63) × (bit (s .directory .defined) (c .number) ≡ 1)
   pub condition : waits c ≡ true → Condition s c
   pub device : transfers c ≡ true → c .number ≤ 249
   pub bytes : transfers c ≡ true → (1 ≤ c .amount) × (c .amount ≤ 65535)
-  pub spare : transfers c ≡ true → s .spare ≢ 0
+  pub freeRequests : transfers c ≡ true → s .freeRequests ≢ 0
   pub held : c .code ≡ 15 → (1 ≤ c .number) × (c .number ≤ 16) × (requestAt s (c .number) .place ≢ 0) × (requestAt s (c .number) .owner ≡ s .running)
   pub channel : c .code ≡ 33 → s .channel ≢ 0
   pub clock : c .code ≡ 32 → s .clock ≢ clockEnd

@@ -80,7 +80,7 @@ pub record Stands (s : State) (p y : ℕ) : Type 0 where
   pub fields : Fields (s .directory) p (taskAt s y)
   pub queued : (q : ℕ) → q < 9 → count y (queue s q) ≡ one (queueFor p (levelOf s y)) q
   pub runs : one (s .running) y ≡ one p Running
-  pub idle : bit (s .idle) y ≡ one p Free
+  pub freeTasks : bit (s .freeTasks) y ≡ one p Free
   pub checks : p ≡ InCheck → Pending (s .requests) y (taskAt s y .request)
   pub ends : p ≡ Ending → (r : ℕ) × Pending (s .requests) y r
 
@@ -93,7 +93,7 @@ pub record Carried (s : State) (h : List ℕ) (r : ℕ) : Type 0 where
   pub others : (q : ℕ) → q < 8 → count (node r) (queue s q) ≡ 0
   pub queued : count (node r) (queue s channelQueue) ≡ one (requestAt s r .place) Queued
   pub runs : one (s .channel) r ≡ one (requestAt s r .place) OnChannel
-  pub spare : bit (s .spare) r ≡ one (requestAt s r .place) 0
+  pub freeRequests : bit (s .freeRequests) r ≡ one (requestAt s r .place) 0
 
 -- ---- Core, unit by unit: "Core runs of a level are disjoint and with its free units make 64". A unit of a level is granted where one task's run has
 -- it, and free where none has.
@@ -137,10 +137,10 @@ pub record Blank (s : State) : Type 0 where
   pub block : taskAt s 0 ≡ noTask
   pub request : requestAt s 0 ≡ noRequest
   pub pool : poolAt s 0 ≡ 0
-  pub idle : s .idle < 2 ^ 25
-  pub idle-none : bit (s .idle) 0 ≡ 0
-  pub spare : s .spare < 2 ^ 17
-  pub spare-none : bit (s .spare) 0 ≡ 0
+  pub freeTasks : s .freeTasks < 2 ^ 25
+  pub freeTasks-none : bit (s .freeTasks) 0 ≡ 0
+  pub freeRequests : s .freeRequests < 2 ^ 17
+  pub freeRequests-none : bit (s .freeRequests) 0 ≡ 0
   pub running : s .running ≤ 24
   pub channel : s .channel ≤ 16
   pub on : (v : ℕ) → bit (s .on) v ≤ bit (s .directory .defined) v

@@ -6,7 +6,7 @@ use mathlib.Core.List.{List}
 use Prim.Native.Nat.{ℕ}
 use borrow.Author.Tests.{eq-eqb}
 use Rattle.threads.specs.Threads.{walk, queuesOf, threaded, row, tab, flat, after, before, counts, count}
-use Rattle.words.specs.Words.{_among_, below, oneTo, allOf, howMany, sameList, upBy, standing, each-holds}
+use Rattle.words.specs.Words.{_among_, below, oneTo, allOf, howMany, sameList, upBy, standing, allTrue}
 use Rattle.words.specs.Rows.{firstOf}
 use Rattle.image.specs.declared.Directory.{Directory}
 use Rattle.image.specs.Answer.{refusalOf}
@@ -31,13 +31,13 @@ unfolding loaded queuesOf threaded walk row tab flat after before
 read-loaded d = refl
 
 -- A free block has no core, whatever its module's units are.
-free-clear : (d : Directory) → rules.clear (loaded d) ≡ true
-unfolding loaded rules.clear allOf oneTo
+free-clear : (d : Directory) → rules.fieldsClear (loaded d) ≡ true
+unfolding loaded rules.fieldsClear allOf oneTo
 free-clear d = rw or-true
 
 -- All the others compute.
-state-rules : (d : Directory) → firstOf (directoryRows d) ≡ 0 → each-holds (stateRules (loaded d)) ≡ true
-unfolding each-holds stateRules loaded rules.directoryPasses rules.inRange rules.onDefined undefinedIn rules.tasksInPlace rules.requestsInPlace rules.queueFor rules.freeSets rules.coreHeld rules.holdsUnit rules.chainsEnd rules.upward rules.busy rules.eventsWait rules.coreWaits rules.queuesInOrder rules.ofTheirLevel rules.coreNeeded needsCore rules.eventsPass rules.linked rules.owned rules.checksPending rules.endingPending rules.channelBusy standing _among_ upBy howMany allOf oneTo below
+state-rules : (d : Directory) → firstOf (directoryRows d) ≡ 0 → allTrue (stateRules (loaded d)) ≡ true
+unfolding allTrue stateRules loaded rules.directoryPasses rules.inRange rules.onDefined undefinedIn rules.tasksInPlace rules.requestsInPlace rules.queueFor rules.freeSets rules.coreHeld rules.holdsUnit rules.chainsEnd rules.upward rules.idleOnlyIfNoneReady rules.eventsWait rules.coreWaits rules.queuesInOrder rules.ofTheirLevel rules.coreNeeded needsCore rules.eventsPass rules.linked rules.owned rules.checksPending rules.endingPending rules.channelBusy standing _among_ upBy howMany allOf oneTo below
 state-rules d e = rw (eq-eqb (firstOf (directoryRows d)) 0 e, free-clear d)
 
 pub loaded-lawful : (d : Directory) → firstOf (directoryRows d) ≡ 0 → rulesHold (tabled (loaded d)) ≡ true
@@ -53,7 +53,7 @@ load-lawful image e =
 
 -- "with all-zero tables, on which every call answers 9"
 zero-unlawful : rulesHold (tabled allZero) ≡ false
-unfolding rulesHold each-holds stateRules allZero rules.directoryPasses directoryRows firstOf rules.pointersSound rules.everywhere queuesOf threaded walk row tab flat after before counts count allOf oneTo sameList
+unfolding rulesHold allTrue stateRules allZero rules.directoryPasses directoryRows firstOf rules.pointersSound rules.everywhere queuesOf threaded walk row tab flat after before counts count allOf oneTo sameList
 zero-unlawful = refl
 
 pub zero-refused : (bytes : List ℕ) → stepOf (tabled allZero) bytes ≡ refused (tabled allZero) 9

@@ -3,7 +3,7 @@ use mathlib.Core.Bool.{Bool, true, not}
 use Prim.Native.Nat.{ℕ, _+_}
 use lib.Bits.{bitAnd}
 use lib.Dec.{eqb, leb}
-use Rattle.words.specs.Words.{if_then_else_, placedBy, size}
+use Rattle.words.specs.Words.{if_then_else_, insertedBy, size}
 use Rattle.tables.specs.Blocks.{awaitingEvents, awaitingTime}
 use Rattle.tables.specs.State.{State, eventQueue, timeQueue, withTask, withQueue, taskAt, queue, joining}
 use Rattle.calls.specs.declared.Call.{Call}
@@ -34,7 +34,7 @@ awaitsEvents s k c = joining (withTask s k (awaitingEvents (taskAt s k) (c .valu
 
 -- "or the time queue, by time and then arrival."
 unfoldable pub inTime : State → ℕ → State
-inTime s k = withQueue s timeQueue (placedBy (λ a. taskAt s a .time) k (queue s timeQueue))
+inTime s k = withQueue s timeQueue (insertedBy (λ a. taskAt s a .time) k (queue s timeQueue))
 
 unfoldable pub awaitsTime : State → ℕ → Call → State
 awaitsTime s k c = inTime (withTask s k (awaitingTime (taskAt s k) (dueOf s c))) k

@@ -4,17 +4,17 @@ use Prim.Native.Nat.{ℕ, zero, suc, _-_}
 use lib.Dec.{eqb}
 use Rattle.words.specs.Words.{if_then_else_, oneTo, someOf, each, adding}
 use Rattle.tables.specs.Blocks.{requestBlocks, Ending, Queued, OnChannel, Done, HoldsRun, GaveBack, noTask, noRequest, withParent, withCore}
-use Rattle.tables.specs.State.{State, withIdle, withSpare, withPool, withTask, withRequest, taskAt, requestAt, poolAt, levelOf, unitsOf}
+use Rattle.tables.specs.State.{State, withFreeTasks, withFreeRequests, withPool, withTask, withRequest, taskAt, requestAt, poolAt, levelOf, unitsOf}
 use Rattle.pools.specs.Pools.{run}
 use Rattle.meaning.specs.Ready.{placed, madeReady, served}
 
 -- ---- Blocks: "The free blocks are sets."
 
 unfoldable pub freedTask : State → ℕ → State
-freedTask s k = withTask (withIdle s (adding (s .idle) k)) k noTask
+freedTask s k = withTask (withFreeTasks s (adding (s .freeTasks) k)) k noTask
 
 unfoldable pub freedRequest : State → ℕ → State
-freedRequest s r = withRequest (withSpare s (adding (s .spare) r)) r noRequest
+freedRequest s r = withRequest (withFreeRequests s (adding (s .freeRequests) r)) r noRequest
 
 -- ---- "frees the caller's run, if any; it isn't granted again"; "free the run and serve that core queue"
 unfoldable pub givenBack : State → ℕ → State

@@ -30,8 +30,8 @@ unfoldable pub needsCore : State → ℕ → Bool
 needsCore s k = ltb 0 (unitsOf s k) && eqb (taskAt s k .core) NotGranted
 
 -- "it gets the units from the lowest start at which enough are free,"
-unfoldable pub granted : State → ℕ → State
-granted s k =
+unfoldable pub givenRun : State → ℕ → State
+givenRun s k =
     let a = startFor s k in
     withPool (withTask s k (withCore (taskAt s k) HoldsRun a)) (levelOf s k) (poolAt s (levelOf s k) + run a (unitsOf s k))
 
@@ -49,13 +49,13 @@ unfoldable pub madeReady : State → ℕ → State
 madeReady s k =
     if needsCore s k then
     (if not (isEmpty (queue s (coreQueue (levelOf s k)))) || not (fits s k) then awaitsCore s k
-    else readied (granted s k) k)
+    else readied (givenRun s k) k)
     else readied s k
 
 -- ---- "When core of a level is freed, its core queue is served from the front, stopping at the first that doesn't fit."
 
 unfoldable pub seated : State → ℕ → ℕ → State
-seated s q k = readied (granted (leaving s q k) k) k
+seated s q k = readied (givenRun (leaving s q k) k) k
 
 unfoldable pub serving : ℕ → List ℕ → State → State
 serving q [] s = s

@@ -60,8 +60,8 @@ callRows s c =
     ∷ 13 when (waits c && badKind s c)
     ∷ 14 when (waits c && eqb (c .kind) 1 && (eqb (c .value) 0 || ltb (size (c .events)) (c .value)))
     ∷ 15 when (waits c && eqb (c .kind) 3 && ltb clockEnd (s .clock + c .amount))
-    ∷ 16 when (starts c && eqb (s .idle) 0)
-    ∷ 17 when (transfers c && eqb (s .spare) 0)
+    ∷ 16 when (starts c && eqb (s .freeTasks) 0)
+    ∷ 17 when (transfers c && eqb (s .freeRequests) 0)
     ∷ 20 when (eqb (c .code) 33 && eqb (s .channel) 0)
     ∷ 21 when (eqb (c .code) 32 && eqb (s .clock) clockEnd)
     ∷ []

@@ -6,7 +6,7 @@ use Prim.Native.Nat.{ℕ, zero, suc, _+_, _^_}
 use lib.Dec.{eqb, leb, ltb}
 use Rattle.threads.specs.declared.Threads.{Threads}
 use Rattle.threads.specs.Threads.{hd, counts, threaded, queuesOf}
-use Rattle.words.specs.Words.{if_then_else_, _implies_, isEmpty, below, oneTo, allOf, howMany, sameList, upBy, standing, each-holds, has, size}
+use Rattle.words.specs.Words.{if_then_else_, _implies_, isEmpty, below, oneTo, allOf, howMany, sameList, upBy, standing, allTrue, has, size}
 use Rattle.words.specs.Rows.{firstOf}
 use Rattle.image.specs.declared.Directory.{Directory}
 use Rattle.image.specs.Directory.{directoryRows}
@@ -100,10 +100,10 @@ requestsInPlace s =
 -- "The free blocks are sets." Of blocks 1 to 24, and of blocks 1 to 16
 unfoldable pub freeSets : State → Bool
 freeSets s =
-    everyTask (λ k. Bool·beq (has (s .idle) k) (eqb (taskAt s k .place) Free))
-    && everyRequest (λ r. Bool·beq (has (s .spare) r) (eqb (requestAt s r .place) Free))
-    && ltb (s .idle) (2 ^ (taskBlocks + 1)) && not (has (s .idle) 0)
-    && ltb (s .spare) (2 ^ (requestBlocks + 1)) && not (has (s .spare) 0)
+    everyTask (λ k. Bool·beq (has (s .freeTasks) k) (eqb (taskAt s k .place) Free))
+    && everyRequest (λ r. Bool·beq (has (s .freeRequests) r) (eqb (requestAt s r .place) Free))
+    && ltb (s .freeTasks) (2 ^ (taskBlocks + 1)) && not (has (s .freeTasks) 0)
+    && ltb (s .freeRequests) (2 ^ (requestBlocks + 1)) && not (has (s .freeRequests) 0)
 
 -- "A free block, and any field with no meaning in the block's present place, is zero." "Zero names no block": slot 0 is zero.
 abbrev pub blankTask : Task → Bool
@@ -126,8 +126,8 @@ clearTask units t =
 abbrev pub clearRequest : Request → Bool
 clearRequest q = eqb (q .place) Free implies blankRequest q
 
-unfoldable pub clear : State → Bool
-clear s =
+unfoldable pub fieldsClear : State → Bool
+fieldsClear s =
     everyTask (λ k. clearTask (unitsOf s k) (taskAt s k)) && everyRequest (λ r. clearRequest (requestAt s r))
     && (blankTask (taskAt s 0) && blankRequest (requestAt s 0) && eqb (poolAt s 0) 0)
 
@@ -153,8 +153,8 @@ unfoldable pub chainsEnd : State → Bool
 chainsEnd s = everyTask (λ k. eqb (upward s taskBlocks k) 0)
 
 -- "The processor is idle only if nothing is ready"
-unfoldable pub busy : State → Bool
-busy s = eqb (s .running) 0 implies everyLevel (λ level. isEmpty (queue s (readyQueue level)))
+unfoldable pub idleOnlyIfNoneReady : State → Bool
+idleOnlyIfNoneReady s = eqb (s .running) 0 implies everyLevel (λ level. isEmpty (queue s (readyQueue level)))
 
 -- "No event waiter's condition already holds"
 unfoldable pub eventsWait : State → Bool
@@ -218,10 +218,10 @@ stateRules s =
     ∷ tasksInPlace s
     ∷ requestsInPlace s
     ∷ freeSets s
-    ∷ clear s
+    ∷ fieldsClear s
     ∷ coreHeld s
     ∷ chainsEnd s
-    ∷ busy s
+    ∷ idleOnlyIfNoneReady s
     ∷ eventsWait s
     ∷ coreWaits s
     ∷ queuesInOrder s
@@ -236,4 +236,4 @@ stateRules s =
     ∷ []
 
 unfoldable pub rulesHold : Tables → Bool
-rulesHold t = pointersSound (t .threads) && each-holds (stateRules (read t))
+rulesHold t = pointersSound (t .threads) && allTrue (stateRules (read t))

@@ -4,12 +4,12 @@ use Prim.Native.Nat.{ℕ, _+_, _%_}
 use lib.Dec.{eqb, leb, ltb}
 use Rattle.words.specs.Words.{if_then_else_, each, has, adding, dropping, least}
 use Rattle.tables.specs.Blocks.{Ready, InLink, InCheck, Ending, Queued, Done, request, newTask, awaitingRequest}
-use Rattle.tables.specs.State.{State, readyQueue, eventQueue, timeQueue, withClock, withOn, withRunning, withChannel, withIdle, withSpare, withTask, withRequest, taskAt, requestAt, queue, levelOf, leading, leaving}
+use Rattle.tables.specs.State.{State, readyQueue, eventQueue, timeQueue, withClock, withOn, withRunning, withChannel, withFreeTasks, withFreeRequests, withTask, withRequest, taskAt, requestAt, queue, levelOf, leading, leaving}
 use Rattle.calls.specs.declared.Call.{Call}
 use Rattle.meaning.specs.Conditions.{enough, holds, waiting}
 use Rattle.meaning.specs.Ready.{placed, madeReady, bestReady}
 use Rattle.meaning.specs.Finish.{freedRequest, givenBack, pending, finished, ended, aborted}
-use Rattle.meaning.specs.Channel.{queued, requestPlaced, started}
+use Rattle.meaning.specs.Channel.{queued, requestPlaced, channelFilled}
 
 -- What an accepted call gives: the state and the result.
 pub record Effect : Type 0 where
@@ -26,7 +26,7 @@ stopped s p = withRunning (placed s (s .running) p) 0
 
 -- "A freed block is used again: always the lowest-numbered free one." A task of the module m, child of p or of none, in the block k.
 unfoldable pub created : State → ℕ → ℕ → ℕ → State
-created s k m p = withTask (withIdle s (dropping (s .idle) k)) k (newTask m p)
+created s k m p = withTask (withFreeTasks s (dropping (s .freeTasks) k)) k (newTask m p)
 
 -- ---- Service calls.
 
@@ -37,7 +37,7 @@ freemain s c = givenBack s (s .running) giving 1
 -- "LINK makes a child and the caller waits for it."
 unfoldable pub link : State → Call → Effect
 link s c =
-    let k = least (s .idle) in
+    let k = least (s .freeTasks) in
     madeReady (stopped (created s k (c .number) (s .running)) InLink) k giving k
 
 -- "END: a caller with requests queued or on the channel waits as ending and keeps its core; otherwise it finishes."
@@ -47,7 +47,7 @@ end s c = ended (withRunning s 0) (s .running) giving 1
 -- SCHEDULE: "A condition that holds at the call doesn't wait".
 unfoldable pub schedule : State → Call → Effect
 schedule s c =
-    let k = least (s .idle) in
+    let k = least (s .freeTasks) in
     let made = created s k (c .number) 0 in
     (if holds s c then madeReady made k else waiting made k c) giving k
 
@@ -81,10 +81,10 @@ dispatchCheck s c =
 -- "READ, WRITE enter the channel queue by the caller's level, then arrival. An empty channel takes the first at once".
 unfoldable pub asked : State → ℕ → Call → State
 asked s r c =
-    withRequest (withSpare s (dropping (s .spare) r)) r (request Queued (s .running) (c .number) (c .code) (c .amount))
+    withRequest (withFreeRequests s (dropping (s .freeRequests) r)) r (request Queued (s .running) (c .number) (c .code) (c .amount))
 
-unfoldable pub transfer : State → Call → Effect
-transfer s c = let r = least (s .spare) in started (queued (asked s r c) r) giving r
+unfoldable pub readOrWrite : State → Call → Effect
+readOrWrite s c = let r = least (s .freeRequests) in channelFilled (queued (asked s r c) r) giving r
 
 -- "CHECK: done request, block freed, go on; pending one, wait for it."
 unfoldable pub awaitsRequest : State → ℕ → State
@@ -109,13 +109,13 @@ timer s c =
 -- "I/O done: the request leaves the channel. If its owner waits on it in CHECK, its block is freed and the owner made ready; if its owner is ending
 -- and this was its last pending one, its block is freed and the owner finishes; otherwise it is marked done. Then the next request goes on the
 -- channel."
-unfoldable pub transferred : State → Call → Effect
-transferred s c =
+unfoldable pub ioDone : State → Call → Effect
+ioDone s c =
     let r = s .channel in
     let k = requestAt s r .owner in
     let t = taskAt s k in
     let left = requestPlaced (withChannel s 0) r Done in
-    started
+    channelFilled
     (if eqb (t .place) InCheck && eqb (t .request) r then madeReady (freedRequest left r) k
     else if eqb (t .place) Ending && not (pending left k) then finished (freedRequest left r) k
     else left)
@@ -126,9 +126,9 @@ unfoldable pub programCheck : State → Call → Effect
 programCheck s c = aborted 24 (s .running) (withRunning s 0) giving 1
 
 -- operator start: a task with no parent; "Kind 0 holds at once (LINK and start always use it)"
-unfoldable pub start : State → Call → Effect
-start s c =
-    let k = least (s .idle) in
+unfoldable pub operatorStart : State → Call → Effect
+operatorStart s c =
+    let k = least (s .freeTasks) in
     madeReady (created s k (c .number) 0) k giving k
 
 -- ---- All calls, by their codes.
@@ -142,10 +142,10 @@ effect s c =
     else if eqb (c .code) 9 then signal s c
     else if eqb (c .code) 10 then testEvent s c
     else if eqb (c .code) 12 then dispatchCheck s c
-    else if eqb (c .code) 13 then transfer s c
-    else if eqb (c .code) 14 then transfer s c
+    else if eqb (c .code) 13 then readOrWrite s c
+    else if eqb (c .code) 14 then readOrWrite s c
     else if eqb (c .code) 15 then check s c
     else if eqb (c .code) 32 then timer s c
-    else if eqb (c .code) 33 then transferred s c
+    else if eqb (c .code) 33 then ioDone s c
     else if eqb (c .code) 34 then programCheck s c
-    else start s c
+    else operatorStart s c

@@ -11,7 +11,7 @@ use lib.ListN.{length, set, getD, take, drop, replicate, length-append, length-s
 use lib.Seq.{drop-cons, getD-set-same, getD-set-other, append-snoc}
 use borrow.Author.Tests.{eq-eqb}
 use Rattle.threads.specs.declared.Threads.{Threads}
-use Rattle.threads.specs.Threads.{hd, lst, after, before, count, counts, flat, row, threaded, Apart, queue, queuesOf, Sound}
+use Rattle.threads.specs.Threads.{hd, lst, after, before, count, counts, flat, row, threaded, Apart, queueIn, queuesOf, Sound}
 use Rattle.threads.proofs.Lists.{tested, count-nil, count-append, count-hit, count-past, count-one, count-flat, after-none, before-none, lst-append}
 use Rattle.threads.proofs.Rows.{row-at}
 use Rattle.threads.proofs.Laws.{member}
@@ -27,17 +27,17 @@ use Rattle.pointers.specs.Walked.{clearAt, restClear}
 -- ---- counts, by where a list stands among the lists
 
 pub counts-at : (z : ℕ) (ls : List (List ℕ)) (q : ℕ) → q < length ls
-    → counts z ls ≡ counts z (take q ls) + count z (queue ls q) + counts z (drop (suc q) ls)
+    → counts z ls ≡ counts z (take q ls) + count z (queueIn ls q) + counts z (drop (suc q) ls)
 unfolding counts
 counts-at z [] q h = absurd (not-suc-le-zero h)
 counts-at z (l ∷ ls) zero h = omega arith
 counts-at z (l ∷ ls) (suc q) h = omega (arith, counts-at z ls q (le-of-suc-le-suc h))
 
-counts-drop : (z : ℕ) (ls : List (List ℕ)) (q : ℕ) → q < length ls → counts z (drop q ls) ≡ count z (queue ls q) + counts z (drop (suc q) ls)
+counts-drop : (z : ℕ) (ls : List (List ℕ)) (q : ℕ) → q < length ls → counts z (drop q ls) ≡ count z (queueIn ls q) + counts z (drop (suc q) ls)
 unfolding counts
 counts-drop z ls q h = ap (counts z) (drop-cons ls q [] h)
 
-pub counts-take : (z : ℕ) (ls : List (List ℕ)) (q : ℕ) → q < length ls → counts z (take (suc q) ls) ≡ counts z (take q ls) + count z (queue ls q)
+pub counts-take : (z : ℕ) (ls : List (List ℕ)) (q : ℕ) → q < length ls → counts z (take (suc q) ls) ≡ counts z (take q ls) + count z (queueIn ls q)
 unfolding counts
 counts-take z [] q h = absurd (not-suc-le-zero h)
 counts-take z (l ∷ ls) zero h = omega arith
@@ -47,7 +47,7 @@ pub counts-out : (z : ℕ) (ls : List (List ℕ)) (q : ℕ) → length ls ≤ su
 unfolding counts
 counts-out z ls q h = ap (counts z) (drop-of-length-le ls {i = suc q} h)
 
-pub flat-drop : (ls : List (List ℕ)) (q : ℕ) → q < length ls → flat (drop q ls) ≡ queue ls q ++ 0 ∷ flat (drop (suc q) ls)
+pub flat-drop : (ls : List (List ℕ)) (q : ℕ) → q < length ls → flat (drop q ls) ≡ queueIn ls q ++ 0 ∷ flat (drop (suc q) ls)
 unfolding flat
 flat-drop ls q h = ap flat (drop-cons ls q [] h)
 
@@ -108,7 +108,7 @@ module _ (t : Threads) (s : Sound t) where
       (λ y k. let o = to-top 40 y k in clear-shown t m y (λ e. loose y (o .0) (o .1) (h y (o .0) (o .1) e))))
 
   -- what is ahead has no mark, and what is behind has one
-  goes : (n q : ℕ) (A B m : List ℕ) → q ≤ 8 → queue (queuesOf t) q ≡ A ++ B → length (B ++ 0 ∷ flat (drop (suc q) (queuesOf t))) ≤ n → length m ≡ 41
+  goes : (n q : ℕ) (A B m : List ℕ) → q ≤ 8 → queueIn (queuesOf t) q ≡ A ++ B → length (B ++ 0 ∷ flat (drop (suc q) (queuesOf t))) ≤ n → length m ≡ 41
       → ((z : ℕ) → 1 ≤ count z B + counts z (drop (suc q) (queuesOf t)) → getD m z 0 ≡ 9)
       → ((z : ℕ) → 1 ≤ z → z ≤ 40 → getD m z 0 ≡ 9 → counts z (take q (queuesOf t)) + count z A ≡ 0)
       → passes t n q (lst 0 A) (hd B) m ≡ true
@@ -117,7 +117,7 @@ module _ (t : Threads) (s : Sound t) where
       let ls = queuesOf t in
       let nine : length ls ≡ 9 = s .apart .nine in
       let last : getD (t .last) q 0 ≡ lst 0 A = last-of t s q (omega arith) ∙ ap (lst 0) (e ∙ append-nil A) in
-      let all : (z : ℕ) → count z (queue ls q) ≡ count z A = λ z. ap (count z) (e ∙ append-nil A) in
+      let all : (z : ℕ) → count z (queueIn ls q) ≡ count z A = λ z. ap (count z) (e ∙ append-nil A) in
       ⊎-elim
       (λ v.
       end-all t q (lst 0 A) 0 m (suc n) (omega arith) refl last (v .1)
@@ -128,7 +128,7 @@ module _ (t : Threads) (s : Sound t) where
       let low : suc q ≤ 8 = omega (arith, v .1) in
       end-one t q (lst 0 A) 0 m (suc n) (omega arith) refl last (v .1)
       ∙ rw (less, add-one q, first-of t s (suc q) (omega arith))
-      (goes n (suc q) [] (queue ls (suc q)) m low refl
+      (goes n (suc q) [] (queueIn ls (suc q)) m low refl
       (omega (arith, ap length (flat-drop ls (suc q) (omega arith)))) l
       (λ z f. ahead z (omega (arith, counts-drop z ls (suc q) (omega arith), count-nil z)))
       (λ z a b f. omega (arith, behind z a b f, all z, counts-take z ls q (omega arith), count-nil z))))
@@ -137,7 +137,7 @@ module _ (t : Threads) (s : Sound t) where
       let ls = queuesOf t in
       let nine : length ls ≡ 9 = s .apart .nine in
       let less : suc n - 1 ≡ n = omega arith in
-      let all : (z : ℕ) → count z (queue ls q) ≡ count z A + count z (b ∷ B) = λ z. ap (count z) e ∙ count-append z A (b ∷ B) in
+      let all : (z : ℕ) → count z (queueIn ls q) ≡ count z A + count z (b ∷ B) = λ z. ap (count z) e ∙ count-append z A (b ∷ B) in
       let mem = member ls (s .apart) q (omega arith) b (omega (arith, all b, count-hit b b B refl)) in
       one-block t q (lst 0 A) b m (suc n) (omega arith) (omega (arith, mem)) (mem .1) (ahead b (omega (arith, count-hit b b B refl)))
       (prev-of t s q (omega arith) A B b e)
@@ -166,7 +166,7 @@ module _ (t : Threads) (s : Sound t) where
       let ls = queuesOf t in
       let nine : length ls ≡ 9 = s .apart .nine in
       rw (first-of t s 0 (omega arith))
-      (goes 50 0 [] (queue ls 0) (replicate 41 9) (omega arith) refl
+      (goes 50 0 [] (queueIn ls 0) (replicate 41 9) (omega arith) refl
       (omega (arith, ap length (flat-drop ls 0 (omega arith)), flat-short ls (s .apart))) refl
       (λ z h. unmarked z (s .apart .inside z (omega (arith, counts-drop z ls 0 (omega arith))) .1))
       (λ z a b h. omega (arith, count-nil z, counts-nil z)))

@@ -12,7 +12,7 @@ use lib.Seq.{getD-set-same, getD-set-other, append-snoc}
 use lib.Dec.{eqb}
 use borrow.Author.Tests.{eq-eqb, ne-eqb}
 use Rattle.threads.specs.declared.Threads.{Threads}
-use Rattle.threads.specs.Threads.{hd, count, counts, flat, queue, queuesOf, Sound}
+use Rattle.threads.specs.Threads.{hd, count, counts, flat, queueIn, queuesOf, Sound}
 use Rattle.threads.proofs.Lists.{tested, count-nil, count-append, count-hit, count-past, count-one, absent-head}
 use Rattle.threads.proofs.Laws.{member}
 use Rattle.threads.proofs.Read.{first-of, next-of}
@@ -26,7 +26,7 @@ use Rattle.pointers.proofs.Passes.{passes, end-all, end-one, one-block}
 use Rattle.pointers.specs.Walked.{restClear, Walks}
 
 pub record Marks (t : Threads) (m : List ℕ) : Type 0 where
-  pub inside : (q y : ℕ) → q < 9 → 1 ≤ count y (queue (queuesOf t) q) → getD m y 0 ≡ q
+  pub inside : (q y : ℕ) → q < 9 → 1 ≤ count y (queueIn (queuesOf t) q) → getD m y 0 ≡ q
   pub outside : (y : ℕ) → y ≤ 40 → counts y (queuesOf t) ≡ 0 → getD m y 0 ≡ 9
 
 -- the marks at the end of the walk from y on
@@ -52,7 +52,7 @@ module _ (t : Threads) (q y : ℕ) (m : List ℕ) where
   ends-block zero o e = absurd (o refl)
   ends-block (suc n) o e = let less : suc n - 1 ≡ n = omega arith in rw (ne-eqb y 0 e, less)
 
-in-take : (z : ℕ) (ls : List (List ℕ)) (j q : ℕ) → j < q → q ≤ length ls → count z (queue ls j) ≤ counts z (take q ls)
+in-take : (z : ℕ) (ls : List (List ℕ)) (j q : ℕ) → j < q → q ≤ length ls → count z (queueIn ls j) ≤ counts z (take q ls)
 unfolding counts
 in-take z [] j q h k = absurd (omega arith)
 in-take z (l ∷ ls) j zero h k = absurd (omega arith)
@@ -60,8 +60,8 @@ in-take z (l ∷ ls) zero (suc q) h k = omega arith
 in-take z (l ∷ ls) (suc j) (suc q) h k = omega (arith, in-take z ls j q (le-of-suc-le-suc h) (le-of-suc-le-suc k))
 
 module _ (t : Threads) (s : Sound t) where
-  leaves : (n q : ℕ) (A B m : List ℕ) → q ≤ 8 → queue (queuesOf t) q ≡ A ++ B → length (B ++ 0 ∷ flat (drop (suc q) (queuesOf t))) ≤ n → length m ≡ 41
-      → ((j z : ℕ) → j < q → 1 ≤ count z (queue (queuesOf t) j) → getD m z 0 ≡ j)
+  leaves : (n q : ℕ) (A B m : List ℕ) → q ≤ 8 → queueIn (queuesOf t) q ≡ A ++ B → length (B ++ 0 ∷ flat (drop (suc q) (queuesOf t))) ≤ n → length m ≡ 41
+      → ((j z : ℕ) → j < q → 1 ≤ count z (queueIn (queuesOf t) j) → getD m z 0 ≡ j)
       → ((z : ℕ) → 1 ≤ count z A → getD m z 0 ≡ q)
       → ((z : ℕ) → z ≤ 40 → counts z (take q (queuesOf t)) + count z A ≡ 0 → getD m z 0 ≡ 9)
       → Marks t (ends t n q (hd B) m)
@@ -69,11 +69,11 @@ module _ (t : Threads) (s : Sound t) where
   leaves (suc n) q A [] m h e k l done now none =
       let ls = queuesOf t in
       let nine : length ls ≡ 9 = s .apart .nine in
-      let all : (z : ℕ) → count z (queue ls q) ≡ count z A = λ z. ap (count z) (e ∙ append-nil A) in
-      let upto : (j z : ℕ) → j < suc q → 1 ≤ count z (queue ls j) → getD m z 0 ≡ j =
+      let all : (z : ℕ) → count z (queueIn ls q) ≡ count z A = λ z. ap (count z) (e ∙ append-nil A) in
+      let upto : (j z : ℕ) → j < suc q → 1 ≤ count z (queueIn ls j) → getD m z 0 ≡ j =
       λ j z f g.
       ⊎-elim
-      (λ w. now z (omega (arith, all z, ap (λ (x : ℕ). count z (queue ls x)) (w .1))) ∙ sym (w .1))
+      (λ w. now z (omega (arith, all z, ap (λ (x : ℕ). count z (queueIn ls x)) (w .1))) ∙ sym (w .1))
       (λ w. done j z (omega (arith, w .1)) g)
       (tested j q) in
       ⊎-elim
@@ -88,7 +88,7 @@ module _ (t : Threads) (s : Sound t) where
       let low : suc q ≤ 8 = omega (arith, v .1) in
       rw (ends-one t q 0 m (suc n) (omega arith) refl (v .1))
       (rw (less, add-one q, first-of t s (suc q) (omega arith))
-      (leaves n (suc q) [] (queue ls (suc q)) m low refl
+      (leaves n (suc q) [] (queueIn ls (suc q)) m low refl
       (omega (arith, ap length (flat-drop ls (suc q) (omega arith)))) l
       upto
       (λ z f. absurd (omega (arith, count-nil z)))
@@ -98,7 +98,7 @@ module _ (t : Threads) (s : Sound t) where
       let ls = queuesOf t in
       let nine : length ls ≡ 9 = s .apart .nine in
       let less : suc n - 1 ≡ n = omega arith in
-      let all : (z : ℕ) → count z (queue ls q) ≡ count z A + count z (b ∷ B) = λ z. ap (count z) e ∙ count-append z A (b ∷ B) in
+      let all : (z : ℕ) → count z (queueIn ls q) ≡ count z A + count z (b ∷ B) = λ z. ap (count z) e ∙ count-append z A (b ∷ B) in
       let mem = member ls (s .apart) q (omega arith) b (omega (arith, all b, count-hit b b B refl)) in
       let same : (z : ℕ) → b ≡ z → getD (set m b q) z 0 ≡ q =
       λ z w. ap (λ (x : ℕ). getD (set m b q) x 0) (sym w) ∙ getD-set-same m b q 0 (omega (arith, mem)) in
@@ -126,7 +126,7 @@ module _ (t : Threads) (s : Sound t) where
       let ls = queuesOf t in
       let nine : length ls ≡ 9 = s .apart .nine in
       rw (first-of t s 0 (omega arith))
-      (leaves 50 0 [] (queue ls 0) (replicate 41 9) (omega arith) refl
+      (leaves 50 0 [] (queueIn ls 0) (replicate 41 9) (omega arith) refl
       (omega (arith, ap length (flat-drop ls 0 (omega arith)), flat-short ls (s .apart))) refl
       (λ j z f g. absurd (omega arith))
       (λ z f. absurd (omega (arith, count-nil z)))
@@ -145,12 +145,12 @@ unfolding _among_
 among-none y [] h = refl
 among-none y (a ∷ l) h = let n = absent-head a y l h in rw (ne-eqb a y (n .0)) (among-none y l (n .1))
 
-pub standing-in : (y : ℕ) (ls : List (List ℕ)) (q : ℕ) → q < length ls → counts y ls ≤ 1 → 1 ≤ count y (queue ls q) → standing y ls ≡ q
+pub standing-in : (y : ℕ) (ls : List (List ℕ)) (q : ℕ) → q < length ls → counts y ls ≤ 1 → 1 ≤ count y (queueIn ls q) → standing y ls ≡ q
 unfolding standing counts
 standing-in y [] q h o k = absurd (not-suc-le-zero h)
 standing-in y (l ∷ ls) zero h o k = rw (among-count y l k)
 standing-in y (l ∷ ls) (suc q) h o k =
-    let c : count y (queue ls q) ≤ counts y ls = omega (arith, counts-at y ls q (le-of-suc-le-suc h)) in
+    let c : count y (queueIn ls q) ≤ counts y ls = omega (arith, counts-at y ls q (le-of-suc-le-suc h)) in
     rw (among-none y l (omega arith)) (ap suc (standing-in y ls q (le-of-suc-le-suc h) (omega arith) k))
 
 pub standing-none : (y : ℕ) (ls : List (List ℕ)) → counts y ls ≡ 0 → standing y ls ≡ length ls
@@ -159,7 +159,7 @@ standing-none y [] h = refl
 standing-none y (l ∷ ls) h = rw (among-none y l (omega arith)) (ap suc (standing-none y ls (omega arith)))
 
 -- a block of some list stands in one of them
-pub some-queue : (y : ℕ) (ls : List (List ℕ)) → 1 ≤ counts y ls → (q : ℕ) × (q < length ls) × (1 ≤ count y (queue ls q))
+pub some-queue : (y : ℕ) (ls : List (List ℕ)) → 1 ≤ counts y ls → (q : ℕ) × (q < length ls) × (1 ≤ count y (queueIn ls q))
 unfolding counts
 some-queue y [] h = absurd (omega arith)
 some-queue y (l ∷ ls) h =
@@ -170,7 +170,7 @@ some-queue y (l ∷ ls) h =
 
 -- a block that stands in a queue is one of its list
 module _ (t : Threads) (s : Sound t) (q : ℕ) (h : q < 9) where
-  pub stands-here : (y : ℕ) → standing y (queuesOf t) ≡ q → 1 ≤ count y (queue (queuesOf t) q)
+  pub stands-here : (y : ℕ) → standing y (queuesOf t) ≡ q → 1 ≤ count y (queueIn (queuesOf t) q)
   stands-here y e =
       let ls = queuesOf t in
       ⊎-elim

@@ -41,8 +41,8 @@ pub fn first(t: Tables, c: Call) -> u8
     r = next(r, 13, waits & bad_kind(defined, c));
     r = next(r, 14, waits & (c.kind == 1) & bad_events(c.value, c.events));
     r = next(r, 15, waits & (c.kind == 3) & past_end(t.clock, c.amount));
-    r = next(r, 16, starts & (t.idle == 0));
-    r = next(r, 17, transfers & (t.spare == 0));
+    r = next(r, 16, starts & (t.freeTasks == 0));
+    r = next(r, 17, transfers & (t.freeRequests == 0));
     r = next(r, 20, (c.code == 33) & (t.channel == 0));
     next(r, 21, (c.code == 32) & (t.clock == CLOCK_END))
 }

@@ -18,7 +18,7 @@ pub fn tables(which: u8) -> Tables {
     }
 }
 
-fn with(clock: u32, running: u8, channel: u8, idle: u32, spare: u32) -> Tables {
+fn with(clock: u32, running: u8, channel: u8, freeTasks: u32, freeRequests: u32) -> Tables {
     let mut requests = [request(0, 0); 17];
     requests[1] = request(2, 1);
     requests[2] = request(3, 2);
@@ -30,8 +30,8 @@ fn with(clock: u32, running: u8, channel: u8, idle: u32, spare: u32) -> Tables {
         on: 0,
         running: running,
         channel: channel,
-        idle: idle,
-        spare: spare,
+        freeTasks: freeTasks,
+        freeRequests: freeRequests,
         pools: [0; 4],
         tasks: [task(); 25],
         requests: requests,

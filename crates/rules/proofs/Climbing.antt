@@ -10,7 +10,7 @@ use lib.ListN.{length, getD}
 use lib.Dec.{leb}
 use borrow.Author.Tests.{le-leb}
 use Rattle.threads.specs.declared.Threads.{Threads}
-use Rattle.threads.specs.Threads.{hd, count, walk, queue, queuesOf, Sound}
+use Rattle.threads.specs.Threads.{hd, count, walk, queueIn, queuesOf, Sound}
 use Rattle.threads.proofs.Laws.{member}
 use Rattle.threads.proofs.Read.{first-of}
 use Rattle.threads.proofs.Lists.{count-append}
@@ -40,17 +40,17 @@ up-all key (a ∷ l) = rw (le-leb 0 (key a) (omega arith)) (up-first key a l)
 pub record Climbing (t : Threads) (key : ℕ → ℕ) (q y least : ℕ) (right : Bool) : Type 0 where
   pub front : List ℕ
   pub rest : List ℕ
-  pub split : queue (queuesOf t) q ≡ front ++ rest
+  pub split : queueIn (queuesOf t) q ≡ front ++ rest
   pub at : y ≡ hd rest
-  pub same : (right && upFrom key least rest) ≡ upBy key (queue (queuesOf t) q)
+  pub same : (right && upFrom key least rest) ≡ upBy key (queueIn (queuesOf t) q)
 
 module _ {t : Threads} (s : Sound t) (key : ℕ → ℕ) (q : ℕ) (h : q < 9) where
   pub climbing-start : Climbing t key q (getD (t .first) q 0) 0 true
   climbing-start =
-      record { front = []; rest = queue (queuesOf t) q; split = refl; at = first-of t s q h; same = up-all key (queue (queuesOf t) q) }
+      record { front = []; rest = queueIn (queuesOf t) q; split = refl; at = first-of t s q h; same = up-all key (queueIn (queuesOf t) q) }
 
   module _ {y least : ℕ} {right : Bool} (c : Climbing t key q y least right) where
-    pub climbing-member : y ≢ 0 → 1 ≤ count y (queue (queuesOf t) q)
+    pub climbing-member : y ≢ 0 → 1 ≤ count y (queueIn (queuesOf t) q)
     climbing-member n = at-member s h (c .front) (c .rest) (c .split) (c .at) n .here
 
     pub climbing-less : y ≢ 0 → length (walk (t .fwd) 41 (getD (t .fwd) y 0)) < length (walk (t .fwd) 41 y)
@@ -71,7 +71,7 @@ module _ {t : Threads} (s : Sound t) (key : ℕ → ℕ) (q : ℕ) (h : q < 9) w
               ∙ c .same;
         }
 
-    pub climbing-end : y ≡ 0 → right ≡ upBy key (queue (queuesOf t) q)
+    pub climbing-end : y ≡ 0 → right ≡ upBy key (queueIn (queuesOf t) q)
     unfolding upFrom
     climbing-end z =
         let none : c .rest ≡ [] =

@@ -2,20 +2,20 @@
 use mathlib.Core.Bool.{Bool, true, false, _&&_, true≢false}
 use mathlib.Core.Path.{_≡_, refl, sym, _∙_}
 use mathlib.Core.List.{List, _∷_}
-use Rattle.words.specs.Words.{each-holds}
+use Rattle.words.specs.Words.{allTrue}
 use Rattle.threads.specs.Threads.{Sound}
 use Rattle.tables.specs.declared.Tables.{Tables}
 use Rattle.tables.specs.State.{State, read}
-use Rattle.meaning.specs.Rules.{pointersSound, coreHeld, chainsEnd, busy, coreWaits, queuesInOrder, linked, channelBusy, stateRules, rulesHold}
+use Rattle.meaning.specs.Rules.{pointersSound, coreHeld, chainsEnd, idleOnlyIfNoneReady, coreWaits, queuesInOrder, linked, channelBusy, stateRules, rulesHold}
 use Rattle.fields.specs.Blocks.{firstPass}
 use Rattle.rules.specs.Orderly.{Orderly, secondPass}
 use Rattle.lawful.proofs.Truth.{both}
 use Rattle.rules.proofs.Waiters.{waiters, events-wait, events-pass, their-level}
 use Rattle.rules.proofs.Deciding.{Passed, passed, passes-first}
 
-one : (b : Bool) (l : List Bool) → each-holds (b ∷ l) ≡ true → (b ≡ true) × (each-holds l ≡ true)
-unfolding each-holds
-one b l e = both b (each-holds l) e
+one : (b : Bool) (l : List Bool) → allTrue (b ∷ l) ≡ true → (b ≡ true) × (allTrue l ≡ true)
+unfolding allTrue
+one b l e = both b (allTrue l) e
 
 -- the second pass's rules, in document 01's order
 in-order : (a b c d e f g : Bool) → ((a && b && f) && (c && d && e && g)) ≡ (a && (b && (c && (d && (e && (f && (g && true)))))))
@@ -43,7 +43,7 @@ module _ (t : Tables) (sound : Sound (t .threads)) where
   orderly e = orderly-of (passed s e)
 
   -- all rules hold: so the first pass passes
-  all-pass : each-holds (stateRules s) ≡ true → firstPass s ≡ true
+  all-pass : allTrue (stateRules s) ≡ true → firstPass s ≡ true
   unfolding stateRules
   all-pass e =
       let a = one _ _ e in
@@ -86,7 +86,7 @@ module _ (t : Tables) (sound : Sound (t .threads)) where
 
   pub first-fails : false ≡ firstPass s → false ≡ rulesHold t
   unfolding rulesHold
-  first-fails e = go (pointersSound (t .threads)) (each-holds (stateRules s)) (λ h. true≢false (sym (all-pass h) ∙ sym e))
+  first-fails e = go (pointersSound (t .threads)) (allTrue (stateRules s)) (λ h. true≢false (sym (all-pass h) ∙ sym e))
     where
       go : (a b : Bool) → (b ≡ true → ⊥) → false ≡ (a && b)
       go false b n = refl
@@ -95,7 +95,7 @@ module _ (t : Tables) (sound : Sound (t .threads)) where
 
   -- the first pass passes: what is left is the second
   pub second-decides : pointersSound (t .threads) ≡ true → firstPass s ≡ true → secondPass s ≡ rulesHold t
-  unfolding rulesHold stateRules each-holds secondPass
+  unfolding rulesHold stateRules allTrue secondPass
   second-decides e f =
       let p = passed s f in
       let o = orderly-of p in
@@ -116,7 +116,7 @@ module _ (t : Tables) (sound : Sound (t .threads)) where
         p .checks,
         p .endings,
       )
-      (in-order (coreHeld s) (chainsEnd s) (busy s) (coreWaits s) (queuesInOrder s) (linked s) (channelBusy s))
+      (in-order (coreHeld s) (chainsEnd s) (idleOnlyIfNoneReady s) (coreWaits s) (queuesInOrder s) (linked s) (channelBusy s))
 
 pub unsound : (t : Tables) → false ≡ pointersSound (t .threads) → false ≡ rulesHold t
 unfolding rulesHold

@@ -15,7 +15,7 @@ use Rattle.meaning.specs.Conditions.{undefinedIn}
 use Rattle.meaning.specs.Ready.{needsCore}
 use Rattle.meaning.specs.Finish.{pendingOf, pending}
 use Rattle.meaning.specs.Rules as rules
-use Rattle.meaning.specs.Rules.{directoryPasses, inRange, onDefined, tasksInPlace, requestsInPlace, freeSets, clear, blankTask, blankRequest, coreNeeded, owned, checksPending, endingPending}
+use Rattle.meaning.specs.Rules.{directoryPasses, inRange, onDefined, tasksInPlace, requestsInPlace, freeSets, fieldsClear, blankTask, blankRequest, coreNeeded, owned, checksPending, endingPending}
 use Rattle.fields.specs.Blocks.{waiterRight, pends, usedBy, taskPasses, requestPasses, firstPass}
 use Rattle.lawful.proofs.Truth.{and-of, both, same-bool}
 use Rattle.lawful.proofs.Blanks.{task-blank}
@@ -41,7 +41,7 @@ module _ (s : State) (k : ℕ) where
   ends = eqb (taskAt s k .place) Ending implies someOf (λ r. pends k (requestAt s r)) (oneTo 16)
 
   abbrev pub used : Bool
-  used = not (eqb (requestAt s k .place) Free) implies usedBy (s .idle) (requestAt s k .owner)
+  used = not (eqb (requestAt s k .place) Free) implies usedBy (s .freeTasks) (requestAt s k .owner)
 
   -- "a used request's owner is a used task", by the owner's place
   abbrev pub owns : Bool
@@ -101,11 +101,11 @@ module _ (s : State) (k : ℕ) where
 -- ---- the owner of a request: its place says that it is used where the free set does
 
 module _ (s : State) (free : Each (taskFree s) 24) (zero : blankTask (taskAt s 0) ≡ true) where
-  used-place : (n : ℕ) → n ≤ 24 → usedBy (s .idle) n ≡ not (eqb (taskAt s n .place) Free)
+  used-place : (n : ℕ) → n ≤ 24 → usedBy (s .freeTasks) n ≡ not (eqb (taskAt s n .place) Free)
   used-place n h =
       ⊎-elim (λ e. rw (e .1, task-blank (taskAt s 0) zero))
       (λ e. let l : 1 ≤ n = omega (arith, e .1) in
-      rw (le-leb n 24 h, le-leb 1 n l) (ap not (same-bool (has (s .idle) n) (eqb (taskAt s n .place) Free) (free .at n l h))))
+      rw (le-leb n 24 h, le-leb 1 n l) (ap not (same-bool (has (s .freeTasks) n) (eqb (taskAt s n .place) Free) (free .at n l h))))
       (tested n 0)
 
   used-owner : (r : ℕ) → requestRange s r ≡ true → used s r ≡ owns s r
@@ -123,7 +123,7 @@ pub record Passed (s : State) : Type 0 where
   pub tasks : tasksInPlace s ≡ true
   pub requests : requestsInPlace s ≡ true
   pub free : freeSets s ≡ true
-  pub clear : rules.clear s ≡ true
+  pub clear : rules.fieldsClear s ≡ true
   pub core : coreNeeded s ≡ true
   pub waiters : Each (waits s) 24
   pub owners : owned s ≡ true
@@ -175,7 +175,7 @@ module _ (s : State) where
   numbers = leb (s .running) 24 && leb (s .channel) 16
 
   abbrev sets : Bool
-  sets = ltb (s .idle) (2 ^ 25) && not (has (s .idle) 0) && ltb (s .spare) (2 ^ 17) && not (has (s .spare) 0)
+  sets = ltb (s .freeTasks) (2 ^ 25) && not (has (s .freeTasks) 0) && ltb (s .freeRequests) (2 ^ 17) && not (has (s .freeRequests) 0)
 
   abbrev slots : Bool
   slots = blankTask (taskAt s 0) && blankRequest (requestAt s 0) && eqb (poolAt s 0) 0
@@ -195,9 +195,9 @@ module _ (s : State) where
       let q = both qs xs (a .1) in
       let slot = both (blankTask (taskAt s 0) && blankRequest (requestAt s 0)) (eqb (poolAt s 0) 0) (b .1) in
       let zero = both (blankTask (taskAt s 0)) (blankRequest (requestAt s 0)) (slot .0) in
-      let spare = both (ltb (s .idle) (2 ^ 25) && not (has (s .idle) 0) && ltb (s .spare) (2 ^ 17)) (not (has (s .spare) 0)) (c .1) in
-      let wide = both (ltb (s .idle) (2 ^ 25) && not (has (s .idle) 0)) (ltb (s .spare) (2 ^ 17)) (spare .0) in
-      let idle = both (ltb (s .idle) (2 ^ 25)) (not (has (s .idle) 0)) (wide .0) in
+      let freeRequests = both (ltb (s .freeTasks) (2 ^ 25) && not (has (s .freeTasks) 0) && ltb (s .freeRequests) (2 ^ 17)) (not (has (s .freeRequests) 0)) (c .1) in
+      let wide = both (ltb (s .freeTasks) (2 ^ 25) && not (has (s .freeTasks) 0)) (ltb (s .freeRequests) (2 ^ 17)) (freeRequests .0) in
+      let freeTasks = both (ltb (s .freeTasks) (2 ^ 25)) (not (has (s .freeTasks) 0)) (wide .0) in
       let t : (k : ℕ) → 1 ≤ k → k ≤ 24 → TaskPasses s k = λ k l h. task-parts s k (every (taskPasses s) 24 (q .1) .at k l h) in
       let r : (k : ℕ) → 1 ≤ k → k ≤ 16 → RequestPasses s k = λ k l h. request-parts s k (every (requestPasses s) 16 (q .0) .at k l h) in
       record {
@@ -218,10 +218,10 @@ module _ (s : State) where
             (record {
               tasks = record { at = λ k l h. t k l h .free };
               requests = record { at = λ k l h. r k l h .free };
-              idle = idle .0;
-              idle-none = idle .1;
-              spare = wide .1;
-              spare-none = spare .1;
+              freeTasks = freeTasks .0;
+              freeTasks-none = freeTasks .1;
+              freeRequests = wide .1;
+              freeRequests-none = freeRequests .1;
             });
         clear =
             all-clear s
@@ -277,6 +277,6 @@ module _ (s : State) where
       (and-of _ _
       (and-of _ _
       (and-of _ _ (and-of _ _ (p .directory) (and-of _ _ (a .running) (a .channel))) (sym on-told ∙ p .on))
-      (and-of _ _ (and-of _ _ (and-of _ _ (b .idle) (b .idle-none)) (b .spare)) (b .spare-none)))
+      (and-of _ _ (and-of _ _ (and-of _ _ (b .freeTasks) (b .freeTasks-none)) (b .freeRequests)) (b .freeRequests-none)))
       (and-of _ _ (and-of _ _ (c .task) (c .request)) (c .pool)))
       (and-of _ _ (shown (requestPasses s) 16 r) (shown (taskPasses s) 24 t))

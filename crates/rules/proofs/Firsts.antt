@@ -15,7 +15,7 @@ use Rattle.pools.specs.Pools.{startOf}
 use Rattle.tables.specs.declared.Tables.{Tables}
 use Rattle.tables.specs.State.{State, coreQueue, taskAt, poolAt, queue, levelOf, unitsOf, read}
 use Rattle.meaning.specs.Ready.{startFor, fits}
-use Rattle.meaning.specs.Rules.{busy, channelBusy}
+use Rattle.meaning.specs.Rules.{idleOnlyIfNoneReady, channelBusy}
 use Rattle.rules.specs.Orderly.{Orderly}
 use Rattle.rules.proofs.Places.{stands, in-queue, tasks-of, module-low}
 use Rattle.rules.proofs.Waiters.{of-core}
@@ -45,8 +45,8 @@ module _ (t : Tables) (o : Orderly t) where
   empty-told : (q : ℕ) → q < 9 → eqb (first q) 0 ≡ isEmpty (queue s q)
   empty-told q h = ap (λ (y : ℕ). eqb y 0) (first-of (t .threads) (o .sound) q h) ∙ empty-is q (queue s q) h refl
 
-  pub busy-told : (not (eqb (t .running) 0) || (eqb (first 1) 0 && eqb (first 2) 0 && eqb (first 3) 0)) ≡ busy s
-  unfolding busy allOf oneTo
+  pub busy-told : (not (eqb (t .running) 0) || (eqb (first 1) 0 && eqb (first 2) 0 && eqb (first 3) 0)) ≡ idleOnlyIfNoneReady s
+  unfolding idleOnlyIfNoneReady allOf oneTo
   busy-told =
       ap (λ (a : Bool). not (eqb (t .running) 0) || a)
       (three (eqb (first 1) 0) (eqb (first 2) 0) (eqb (first 3) 0)

@@ -13,7 +13,7 @@ use Rattle.words.specs.Words.{if_then_else_, _implies_, standing}
 use Rattle.tables.specs.declared.Tables.{Tables}
 use Rattle.tables.specs.declared.Task.{Task}
 use Rattle.tables.specs.State.{State, node, taskAt, requestAt, queue, levelOf, unitsOf, read}
-use Rattle.meaning.specs.Rules.{queueFor, blankTask, clear}
+use Rattle.meaning.specs.Rules.{queueFor, blankTask, fieldsClear}
 use Rattle.rules.specs.Orderly.{Orderly}
 use Rattle.lawful.proofs.Truth.{both}
 use Rattle.fields.proofs.Parts.{ranges, clears, tasks-stand, requests-stand}

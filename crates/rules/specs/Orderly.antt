@@ -4,7 +4,7 @@ use mathlib.Core.Path.{_≡_}
 use Rattle.threads.specs.Threads.{Sound}
 use Rattle.tables.specs.declared.Tables.{Tables}
 use Rattle.tables.specs.State.{State, read}
-use Rattle.meaning.specs.Rules.{directoryPasses, inRange, tasksInPlace, requestsInPlace, clear, coreHeld, chainsEnd, linked, busy, coreWaits, queuesInOrder, channelBusy}
+use Rattle.meaning.specs.Rules.{directoryPasses, inRange, tasksInPlace, requestsInPlace, fieldsClear, coreHeld, chainsEnd, linked, idleOnlyIfNoneReady, coreWaits, queuesInOrder, channelBusy}
 
 -- the pointers are sound, and the directory, the fields and the places of the blocks keep their rules
 pub record Orderly (t : Tables) : Type 0 where
@@ -13,8 +13,8 @@ pub record Orderly (t : Tables) : Type 0 where
   pub range : inRange (read t) ≡ true
   pub tasks : tasksInPlace (read t) ≡ true
   pub requests : requestsInPlace (read t) ≡ true
-  pub clear : clear (read t) ≡ true
+  pub clear : fieldsClear (read t) ≡ true
 
 -- the rules that go over several blocks
 unfoldable pub secondPass : State → Bool
-secondPass s = (coreHeld s && chainsEnd s && linked s) && (busy s && coreWaits s && queuesInOrder s && channelBusy s)
+secondPass s = (coreHeld s && chainsEnd s && linked s) && (idleOnlyIfNoneReady s && coreWaits s && queuesInOrder s && channelBusy s)

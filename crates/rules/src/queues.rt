@@ -4,7 +4,7 @@ ghost use mathlib.Core.Path.{_≡_};
 ghost use lib.Dec.{eqb, ltb};
 ghost use Rattle.pools.specs.Pools.{startOf};
 ghost use Rattle.tables.specs.State.{read};
-ghost use Rattle.meaning.specs.Rules.{busy, channelBusy, coreWaits, queuesInOrder};
+ghost use Rattle.meaning.specs.Rules.{idleOnlyIfNoneReady, channelBusy, coreWaits, queuesInOrder};
 ghost use Rattle.rules.specs.Orderly.{Orderly};
 use pools::Found;
 use tables::Tables;
@@ -39,7 +39,7 @@ fn core_waits(k: u8, granted: u64, units: u8) -> bool
 // The three rules above, "the time queue by time" and "the channel queue by level", in one function: it takes the tables once.
 pub fn queues_right(t: Tables) -> bool
     requires { ⌜ Orderly t ⌝ }
-    ensures { λ r. ⌜ r ≡ (busy (read t) && coreWaits (read t) && queuesInOrder (read t) && channelBusy (read t)) ⌝ }
+    ensures { λ r. ⌜ r ≡ (idleOnlyIfNoneReady (read t) && coreWaits (read t) && queuesInOrder (read t) && channelBusy (read t)) ⌝ }
 {
     let h = t.threads;
     let d = t.directory;

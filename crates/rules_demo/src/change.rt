@@ -154,8 +154,8 @@ pub fn number(t: Tables, which: u8, v: u64) -> Tables {
         3 => u.on = v,
         4 => u.running = byte(v),
         5 => u.channel = byte(v),
-        6 => u.idle = word(v),
-        _ => u.spare = word(v),
+        6 => u.freeTasks = word(v),
+        _ => u.freeRequests = word(v),
     }
     u.directory = d;
     u

@@ -16,7 +16,7 @@ pub fn started(program: u8, level: usize, granted: u64) -> Tables {
     let mut t = loaded();
     t.tasks[1] = sample::task(1, program, 0, 1, 0);
     t.running = 1;
-    t.idle = 33554428;
+    t.freeTasks = 33554428;
     pool(t, level, granted)
 }
 
@@ -32,7 +32,7 @@ pub fn nobody_runs(program: u8, level: usize, granted: u64) -> Tables {
 pub fn reads(program: u8, level: usize, granted: u64) -> Tables {
     let mut t = started(program, level, granted);
     t.requests[1] = sample::request(2, 1, 7, 13, 80);
-    t.spare = 131068;
+    t.freeRequests = 131068;
     t.channel = 1;
     t
 }
@@ -57,6 +57,6 @@ pub fn chain() -> Tables {
     tasks[24].place = 1;
     t.tasks = tasks;
     t.running = 24;
-    t.idle = 0;
+    t.freeTasks = 0;
     t
 }

@@ -8,7 +8,7 @@ use Rattle.pools.specs.Pools.{run}
 use Rattle.pools.specs.Runs.{HeldRun}
 use Rattle.tables.specs.declared.Task.{Task}
 use Rattle.tables.specs.Blocks.{HoldsRun, GaveBack, noTask, withCore}
-use Rattle.tables.specs.State.{State, withPool, withTask, taskAt, poolAt, entryOf}
+use Rattle.tables.specs.State.{State, withPool, withTask, taskAt, poolAt, entryFor}
 use Rattle.meaning.specs.Ready.{served}
 use Rattle.meaning.specs.Finish.{givenBack}
 use Rattle.lawful.proofs.Sums.{field-kept}
@@ -20,7 +20,7 @@ unfolding givenBack
 keeps-core s k n = rw (ne-eqb _ _ n)
 
 -- by the entry that the code has in hand
-module _ (s : State) (k : ℕ) {e : Entry} (h : e ≡ entryOf s k) where
+module _ (s : State) (k : ℕ) {e : Entry} (h : e ≡ entryFor s k) where
   pub held-run : Holder s k → taskAt s k .core ≡ HoldsRun → HeldRun (poolAt s (e .level)) (taskAt s k .start) (e .units)
   held-run g c = rw h (g .granted c)
 

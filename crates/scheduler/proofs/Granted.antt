@@ -20,9 +20,9 @@ use Rattle.image.specs.declared.Entry.{Entry}
 use Rattle.image.specs.Directory.{entryAt}
 use Rattle.tables.specs.declared.Task.{Task}
 use Rattle.tables.specs.Blocks.{Ready, InCore, NotGranted, HoldsRun, noTask, withCore}
-use Rattle.tables.specs.State.{State, coreQueue, withPool, withTask, taskAt, poolAt, queue, entryOf, levelOf, unitsOf, joining}
+use Rattle.tables.specs.State.{State, coreQueue, withPool, withTask, taskAt, poolAt, queue, entryFor, levelOf, unitsOf, joining}
 use Rattle.lawful.proofs.Sums.{field-kept}
-use Rattle.meaning.specs.Ready.{placed, startFor, fits, needsCore, granted, readied, awaitsCore, madeReady}
+use Rattle.meaning.specs.Ready.{placed, startFor, fits, needsCore, givenRun, readied, awaitsCore, madeReady}
 use Rattle.scheduler.specs.Core.{seatOf, Granting}
 
 -- ---- The search.
@@ -58,12 +58,12 @@ start-run g n a e l =
         }
 
 -- a grant leaves the task its module
-pub level-granted : (s : State) (k : ℕ) → levelOf (granted s k) k ≡ levelOf s k
-unfolding granted
+pub level-granted : (s : State) (k : ℕ) → levelOf (givenRun s k) k ≡ levelOf s k
+unfolding givenRun
 level-granted s k = ap (λ (m : ℕ). entryAt (s .directory) m .level) (field-kept (λ (x : Task). x .program) (s .tasks) k k _ noTask refl)
 
 -- ---- Getting ready, by the entry that the code has in hand
-module _ (s : State) (k : ℕ) {e : Entry} (h : e ≡ entryOf s k) where
+module _ (s : State) (k : ℕ) {e : Entry} (h : e ≡ entryFor s k) where
   -- the code's test is the meaning's
   pub needs-as : {b : Bool} → b ≡ (ltb 0 (e .units) && eqb (taskAt s k .core) NotGranted) → needsCore s k ≡ b
   unfolding needsCore
@@ -92,12 +92,12 @@ module _ (s : State) (k : ℕ) {e : Entry} (h : e ≡ entryOf s k) where
       go true q g = rw (n, q, le-ltb _ _ (nowhere-start (poolAt s (levelOf s k)) (unitsOf s k) g))
       go false q g = rw (n, q)
 
-  pub ready-seated : {a : ℕ} → needsCore s k ≡ true → seatOf s (e .level) (e .units) ≡ At a → madeReady s k ≡ joining (placed (granted s k) k Ready) (e .level) k
+  pub ready-seated : {a : ℕ} → needsCore s k ≡ true → seatOf s (e .level) (e .units) ≡ At a → madeReady s k ≡ joining (placed (givenRun s k) k Ready) (e .level) k
   unfolding madeReady readied seatOf fits
   ready-seated {a} n f = rw h (go (isEmpty (queue s (coreQueue (levelOf s k)))) refl (rw h at f))
     where
       go : (b : Bool) → isEmpty (queue s (coreQueue (levelOf s k))) ≡ b → cond b (foundOf (poolAt s (levelOf s k)) (unitsOf s k)) Nowhere ≡ At a
-          → madeReady s k ≡ joining (placed (granted s k) k Ready) (levelOf s k) k
+          → madeReady s k ≡ joining (placed (givenRun s k) k Ready) (levelOf s k) k
       go true q g = let i = seat-start f in rw (n, q, lt-ltb (startFor s k) 64 (omega (arith, i)), level-granted s k)
       go false q g = let y : _≡_ {A = ℕ} 0 1 = cc in absurd (omega arith)
 
@@ -110,11 +110,11 @@ module _ (s : State) {k level n a : ℕ} (g : Granting s k level n a) where
       start-run (poolAt s level) n a (g .own-start ∙ ap₂ (λ (x y : ℕ). startOf (poolAt s x) y) (sym (g .own-level)) (sym (g .own-units))) (g .start)
 
   -- the state after a grant, by the numbers that the code has in hand
-  pub granted-as : withPool (withTask s k (withCore (taskAt s k) HoldsRun a)) level (poolAt s level + run a n) ≡ granted s k
-  unfolding granted
+  pub granted-as : withPool (withTask s k (withCore (taskAt s k) HoldsRun a)) level (poolAt s level + run a n) ≡ givenRun s k
+  unfolding givenRun
   granted-as = rw (g .own-start, g .own-level, g .own-units)
 
 -- a grant moves no block
-pub granted-out : (s : State) (k y : ℕ) → counts y (s .queues) ≡ 0 → counts y (granted s k .queues) ≡ 0
-unfolding granted
+pub granted-out : (s : State) (k y : ℕ) → counts y (s .queues) ≡ 0 → counts y (givenRun s k .queues) ≡ 0
+unfolding givenRun
 granted-out s k y e = e

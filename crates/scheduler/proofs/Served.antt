@@ -17,7 +17,7 @@ use Rattle.tables.specs.declared.Tables.{Tables}
 use Rattle.tables.specs.Blocks.{Ready, noTask}
 use Rattle.tables.specs.State.{State, coreQueue, taskAt, poolAt, queue, levelOf, unitsOf, joining, leaving, read}
 use Rattle.tables.specs.Held.{Shows}
-use Rattle.meaning.specs.Ready.{placed, startFor, fits, granted, readied, seated, serving, served}
+use Rattle.meaning.specs.Ready.{placed, startFor, fits, givenRun, readied, seated, serving, served}
 use Rattle.pools.specs.declared.Found.the-variants.{At, Nowhere}
 use Rattle.pools.specs.Pools.{startOf}
 use Rattle.pools.specs.Find.{foundOf}
@@ -26,7 +26,7 @@ use Rattle.lawful.proofs.Sums.{field-kept}
 use Rattle.scheduler.specs.Core.{Waiter, Waiters}
 use Rattle.scheduler.proofs.Granted.{nowhere-start, level-granted}
 
-pub seated-as : (s : State) (q k : ℕ) → joining (placed (granted (leaving s q k) k) k Ready) (levelOf s k) k ≡ seated s q k
+pub seated-as : (s : State) (q k : ℕ) → joining (placed (givenRun (leaving s q k) k) k Ready) (levelOf s k) k ≡ seated s q k
 unfolding seated readied
 seated-as s q k = rw (level-granted (leaving s q k) k)
 
@@ -55,12 +55,12 @@ waiters-kept s u level d p c w =
 
 module _ (s : State) (q k : ℕ) where
   program-kept : (y : ℕ) → taskAt (seated s q k) y .program ≡ taskAt s y .program
-  unfolding seated readied granted
+  unfolding seated readied givenRun
   program-kept y =
-      field-kept (λ (x : Task). x .program) (granted (leaving s q k) k .tasks) k y _ noTask refl ∙ field-kept (λ (x : Task). x .program) (s .tasks) k y _ noTask refl
+      field-kept (λ (x : Task). x .program) (givenRun (leaving s q k) k .tasks) k y _ noTask refl ∙ field-kept (λ (x : Task). x .program) (s .tasks) k y _ noTask refl
 
   directory-kept : seated s q k .directory ≡ s .directory
-  unfolding seated readied granted
+  unfolding seated readied givenRun
   directory-kept = refl
 
 module _ (s : State) (level k : ℕ) (l : List ℕ) (nine : length (s .queues) ≡ 9) (w : Waiters s level) (e : queue s (coreQueue level) ≡ k ∷ l) where
@@ -68,12 +68,12 @@ module _ (s : State) (level k : ℕ) (l : List ℕ) (nine : length (s .queues) �
   front = w .each k (rw e (omega (arith, count-hit k k l refl)))
 
   pub seated-queue : queue (seated s (coreQueue level) k) (coreQueue level) ≡ l
-  unfolding granted
+  unfolding givenRun
   seated-queue =
       let o = front .own in
       let d : coreQueue level ≢ levelOf s k = λ z. (omega (arith, z, o)) in
       ap (λ (x : State). queue x (coreQueue level)) (sym (seated-as s (coreQueue level) k))
-      ∙ getD-set-other (granted (leaving s (coreQueue level) k) k .queues) (levelOf s k) (coreQueue level) _ [] d
+      ∙ getD-set-other (givenRun (leaving s (coreQueue level) k) k .queues) (levelOf s k) (coreQueue level) _ [] d
       ∙ getD-set-same (s .queues) (coreQueue level) _ [] (omega (arith, nine, w .worst))
       ∙ ap (without k) e ∙ without-at k [] l (count-nil k)
 

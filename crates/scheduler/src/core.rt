@@ -7,7 +7,7 @@ ghost use Rattle.threads.specs.Threads.{Sound};
 ghost use Rattle.tables.specs.Blocks.{NotGranted};
 ghost use Rattle.tables.specs.State.{read};
 ghost use Rattle.tables.specs.Held.{Shows};
-ghost use Rattle.meaning.specs.Ready.{granted};
+ghost use Rattle.meaning.specs.Ready.{givenRun};
 ghost use Rattle.scheduler.specs.Core.{seatOf, Granting};
 use pools::Found;
 use tables::Tables;
@@ -34,7 +34,7 @@ pub fn seat(t: Tables, level: u8, n: u8) -> Found
 // The task k is granted its n units of core, from a on.
 pub fn grant(t: Tables, k: u8, level: u8, n: u8, a: u8) -> Tables
     requires { ⌜ Granting (read t) k level n a × Sound (t .threads) ⌝ }
-    ensures { λ r. ⌜ Shows r (granted (read t) k) ⌝ }
+    ensures { λ r. ⌜ Shows r (givenRun (read t) k) ⌝ }
 {
     let mut r = t;
     let p = pools::grant(r.pools[level as usize], a, n);

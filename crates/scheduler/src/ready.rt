@@ -1,6 +1,6 @@
 // Making a task ready.
 ghost use Prim.Native.Nat.{_<_};
-ghost use Rattle.threads.specs.Threads.{Free};
+ghost use Rattle.threads.specs.Threads.{Outside};
 ghost use Rattle.tables.specs.State.{read, joining};
 ghost use Rattle.tables.specs.Held.{Loose, Shows};
 ghost use Rattle.meaning.specs.Ready.{placed, madeReady};
@@ -10,7 +10,7 @@ use tables::Tables;
 
 // The task k, of no queue, in the place p and at the end of the queue q.
 pub fn put_in(t: Tables, q: u8, p: u8, k: u8) -> Tables
-    requires { ⌜ Free (t .threads) q k × (k < 25) ⌝ }
+    requires { ⌜ Outside (t .threads) q k × (k < 25) ⌝ }
     ensures { λ r. ⌜ Shows r (joining (placed (read t) k p) q k) ⌝ }
 {
     let x = blocks::moving(t.tasks[k as usize], p);

@@ -14,7 +14,7 @@ use Rattle.calls.specs.Calls.{needsTask}
 use Rattle.meaning.specs.Refusals.{starts}
 use Rattle.meaning.specs.declared.Given.{Given}
 use Rattle.meaning.specs.Given.{Gives}
-use Rattle.meaning.specs.Services.{Effect, freemain, link, end, schedule, wait, signal, testEvent, dispatchCheck, transfer, check, timer, transferred, programCheck, start, effect}
+use Rattle.meaning.specs.Services.{Effect, freemain, link, end, schedule, wait, signal, testEvent, dispatchCheck, readOrWrite, check, timer, ioDone, programCheck, operatorStart, effect}
 use Rattle.channel.specs.Transfer.{Transferring}
 use Rattle.lawful.specs.Resting.{Lawful}
 use Rattle.lawful.specs.Accepts.{Accepts}
@@ -32,7 +32,7 @@ module _ {t : Tables} {c : Call} (g : LawfulTables t) (a : Accepts (read t) c) w
   pub transferring : (n : ℕ) → n among (13 ∷ 14 ∷ []) ≡ true → needsTask n ≡ true → c .code ≡ n → Sound (t .threads) × Transferring (read t) c
   transferring n e f z =
       let o = one-of (g .state) a (13 ∷ 14 ∷ []) n e z in
-      (g .pointers, record { shape = g .state .shape; runs = needs (g .state) a n f z; spare = a .spare o; bytes = a .bytes o .1 })
+      (g .pointers, record { shape = g .state .shape; runs = needs (g .state) a n f z; freeRequests = a .freeRequests o; bytes = a .bytes o .1 })
 
 -- ---- Operator start is what no other code is.
 abbrev pub NoOther : ℕ → Type 0
@@ -75,11 +75,11 @@ module _ (s : State) (c : Call) where
   unfolding effect
   at-dispatch-check z = rw z
 
-  pub at-read : c .code ≡ 13 → effect s c ≡ transfer s c
+  pub at-read : c .code ≡ 13 → effect s c ≡ readOrWrite s c
   unfolding effect
   at-read z = rw z
 
-  pub at-write : c .code ≡ 14 → effect s c ≡ transfer s c
+  pub at-write : c .code ≡ 14 → effect s c ≡ readOrWrite s c
   unfolding effect
   at-write z = rw z
 
@@ -91,7 +91,7 @@ module _ (s : State) (c : Call) where
   unfolding effect
   at-timer z = rw z
 
-  pub at-transferred : c .code ≡ 33 → effect s c ≡ transferred s c
+  pub at-transferred : c .code ≡ 33 → effect s c ≡ ioDone s c
   unfolding effect
   at-transferred z = rw z
 
@@ -99,7 +99,7 @@ module _ (s : State) (c : Call) where
   unfolding effect
   at-program-check z = rw z
 
-  pub at-start : NoOther (c .code) → effect s c ≡ start s c
+  pub at-start : NoOther (c .code) → effect s c ≡ operatorStart s c
   unfolding effect
   at-start r = rw (ne-eqb _ 1 (r .0 .0 .0 .0 .0 .0 .0 .0 .0 .0 .0 .0 .0 .1), ne-eqb _ 5 (r .0 .0 .0 .0 .0 .0 .0 .0 .0 .0 .0 .0 .1), ne-eqb _ 6 (r .0 .0 .0 .0 .0 .0 .0 .0 .0 .0 .0 .1), ne-eqb _ 7 (r .0 .0 .0 .0 .0 .0 .0 .0 .0 .0 .1), ne-eqb _ 8 (r .0 .0 .0 .0 .0 .0 .0 .0 .0 .1), ne-eqb _ 9 (r .0 .0 .0 .0 .0 .0 .0 .0 .1), ne-eqb _ 10 (r .0 .0 .0 .0 .0 .0 .0 .1), ne-eqb _ 12 (r .0 .0 .0 .0 .0 .0 .1), ne-eqb _ 13 (r .0 .0 .0 .0 .0 .1), ne-eqb _ 14 (r .0 .0 .0 .0 .1), ne-eqb _ 15 (r .0 .0 .0 .1), ne-eqb _ 32 (r .0 .0 .1), ne-eqb _ 33 (r .0 .1), ne-eqb _ 34 (r .1))
 

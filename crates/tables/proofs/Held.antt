@@ -7,7 +7,7 @@ use Prim.Native.Nat.{ℕ, _<_}
 use native.Mathlib.Omega.{arith}
 use lib.ListN.{length, set, getD}
 use Rattle.threads.specs.declared.Threads.{Threads}
-use Rattle.threads.specs.Threads.{hd, count, counts, queuesOf, walk, without, Sound, Member, Free}
+use Rattle.threads.specs.Threads.{hd, count, counts, queuesOf, walk, without, Sound, Member, Outside}
 use Rattle.threads.proofs.Lists.{count-hit}
 use Rattle.threads.proofs.Read.{first-of, next-of, walked, gone}
 use Rattle.threads.proofs.Walk.{none-first}
@@ -25,8 +25,8 @@ on t x =
       on = t .on;
       running = t .running;
       channel = t .channel;
-      idle = t .idle;
-      spare = t .spare;
+      freeTasks = t .freeTasks;
+      freeRequests = t .freeRequests;
       pools = t .pools;
       tasks = t .tasks;
       requests = t .requests;
@@ -91,5 +91,5 @@ pub left-out : {h : Threads} {q k : ℕ} → Member h q k → counts k (set (que
 left-out m = gone m
 
 -- a block of no queue can be put into any
-pub loose-free : {t : Tables} {k : ℕ} (q : ℕ) → Loose t k → q < 9 → Free (t .threads) q k
+pub loose-free : {t : Tables} {k : ℕ} (q : ℕ) → Loose t k → q < 9 → Outside (t .threads) q k
 loose-free q l h = record { sound = l .held .sound; queue = h; some = l .some; low = omega (arith, l .low); none = l .out }

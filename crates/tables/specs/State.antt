@@ -17,8 +17,8 @@ pub record State : Type 0 where
   pub on : ℕ
   pub running : ℕ
   pub channel : ℕ
-  pub idle : ℕ
-  pub spare : ℕ
+  pub freeTasks : ℕ
+  pub freeRequests : ℕ
   pub pools : List ℕ
   pub tasks : List Task
   pub requests : List Request
@@ -52,41 +52,41 @@ requestOf n = n - taskBlocks
 
 abbrev pub state : Directory → ℕ → ℕ → ℕ → ℕ → ℕ → ℕ → List ℕ → List Task → List Request → List (List ℕ) → State
 state d c o r h i f p t q l =
-    record { directory = d; clock = c; on = o; running = r; channel = h; idle = i; spare = f; pools = p; tasks = t; requests = q; queues = l }
+    record { directory = d; clock = c; on = o; running = r; channel = h; freeTasks = i; freeRequests = f; pools = p; tasks = t; requests = q; queues = l }
 
 abbrev pub withClock : State → ℕ → State
-withClock s x = state s.directory x s.on s.running s.channel s.idle s.spare s.pools s.tasks s.requests s.queues
+withClock s x = state s.directory x s.on s.running s.channel s.freeTasks s.freeRequests s.pools s.tasks s.requests s.queues
 
 abbrev pub withOn : State → ℕ → State
-withOn s x = state s.directory s.clock x s.running s.channel s.idle s.spare s.pools s.tasks s.requests s.queues
+withOn s x = state s.directory s.clock x s.running s.channel s.freeTasks s.freeRequests s.pools s.tasks s.requests s.queues
 
 abbrev pub withRunning : State → ℕ → State
-withRunning s x = state s.directory s.clock s.on x s.channel s.idle s.spare s.pools s.tasks s.requests s.queues
+withRunning s x = state s.directory s.clock s.on x s.channel s.freeTasks s.freeRequests s.pools s.tasks s.requests s.queues
 
 abbrev pub withChannel : State → ℕ → State
-withChannel s x = state s.directory s.clock s.on s.running x s.idle s.spare s.pools s.tasks s.requests s.queues
+withChannel s x = state s.directory s.clock s.on s.running x s.freeTasks s.freeRequests s.pools s.tasks s.requests s.queues
 
-abbrev pub withIdle : State → ℕ → State
-withIdle s x = state s.directory s.clock s.on s.running s.channel x s.spare s.pools s.tasks s.requests s.queues
+abbrev pub withFreeTasks : State → ℕ → State
+withFreeTasks s x = state s.directory s.clock s.on s.running s.channel x s.freeRequests s.pools s.tasks s.requests s.queues
 
-abbrev pub withSpare : State → ℕ → State
-withSpare s x = state s.directory s.clock s.on s.running s.channel s.idle x s.pools s.tasks s.requests s.queues
+abbrev pub withFreeRequests : State → ℕ → State
+withFreeRequests s x = state s.directory s.clock s.on s.running s.channel s.freeTasks x s.pools s.tasks s.requests s.queues
 
 abbrev pub withPool : State → ℕ → ℕ → State
 withPool s level x =
-    state s.directory s.clock s.on s.running s.channel s.idle s.spare (set (s .pools) level x) s.tasks s.requests s.queues
+    state s.directory s.clock s.on s.running s.channel s.freeTasks s.freeRequests (set (s .pools) level x) s.tasks s.requests s.queues
 
 abbrev pub withTask : State → ℕ → Task → State
 withTask s k x =
-    state s.directory s.clock s.on s.running s.channel s.idle s.spare s.pools (set (s .tasks) k x) s.requests s.queues
+    state s.directory s.clock s.on s.running s.channel s.freeTasks s.freeRequests s.pools (set (s .tasks) k x) s.requests s.queues
 
 abbrev pub withRequest : State → ℕ → Request → State
 withRequest s r x =
-    state s.directory s.clock s.on s.running s.channel s.idle s.spare s.pools s.tasks (set (s .requests) r x) s.queues
+    state s.directory s.clock s.on s.running s.channel s.freeTasks s.freeRequests s.pools s.tasks (set (s .requests) r x) s.queues
 
 abbrev pub withQueue : State → ℕ → List ℕ → State
 withQueue s q x =
-    state s.directory s.clock s.on s.running s.channel s.idle s.spare s.pools s.tasks s.requests (set (s .queues) q x)
+    state s.directory s.clock s.on s.running s.channel s.freeTasks s.freeRequests s.pools s.tasks s.requests (set (s .queues) q x)
 
 -- ---- What stands in a state.
 
@@ -104,14 +104,14 @@ abbrev pub queue : State → ℕ → List ℕ
 queue s q = getD (s .queues) q []
 
 -- the level and the core units of a task's module
-abbrev pub entryOf : State → ℕ → Entry
-entryOf s k = getD (s .directory .entries) (taskAt s k .program) noEntry
+abbrev pub entryFor : State → ℕ → Entry
+entryFor s k = getD (s .directory .entries) (taskAt s k .program) noEntry
 
 abbrev pub levelOf : State → ℕ → ℕ
-levelOf s k = entryOf s k .level
+levelOf s k = entryFor s k .level
 
 abbrev pub unitsOf : State → ℕ → ℕ
-unitsOf s k = entryOf s k .units
+unitsOf s k = entryFor s k .units
 
 -- ---- Joining the end of a queue, joining its front, leaving it.
 
@@ -128,7 +128,7 @@ leaving s q x = withQueue s q (without x (queue s q))
 
 abbrev pub read : Tables → State
 read t =
-    state t.directory t.clock t.on t.running t.channel t.idle t.spare t.pools t.tasks t.requests (queuesOf (t .threads))
+    state t.directory t.clock t.on t.running t.channel t.freeTasks t.freeRequests t.pools t.tasks t.requests (queuesOf (t .threads))
 
 abbrev pub tabled : State → Tables
 tabled s =
@@ -138,8 +138,8 @@ tabled s =
       on = s .on;
       running = s .running;
       channel = s .channel;
-      idle = s .idle;
-      spare = s .spare;
+      freeTasks = s .freeTasks;
+      freeRequests = s .freeRequests;
       pools = s .pools;
       tasks = s .tasks;
       requests = s .requests;

@@ -46,8 +46,8 @@ pub struct Tables {
     pub on: u64,
     pub running: u8,
     pub channel: u8,
-    pub idle: u32,
-    pub spare: u32,
+    pub freeTasks: u32,
+    pub freeRequests: u32,
     pub pools: [u64; 4],
     pub tasks: [Task; 25],
     pub requests: [Request; 17],
@@ -69,8 +69,8 @@ pub fn all_zero() -> Tables
 }
 
 // The tables of a directory in which nothing is used, with the blocks of two sets free.
-fn unused(directory: Directory, idle: u32, spare: u32) -> Tables
-    ensures { λ r. ⌜ r ≡ tabled (state directory 0 0 0 0 idle spare (replicate 4 0) (replicate 25 noTask) (replicate 17 noRequest) (replicate 9 [])) ⌝ }
+fn unused(directory: Directory, freeTasks: u32, freeRequests: u32) -> Tables
+    ensures { λ r. ⌜ r ≡ tabled (state directory 0 0 0 0 freeTasks freeRequests (replicate 4 0) (replicate 25 noTask) (replicate 17 noRequest) (replicate 9 [])) ⌝ }
 {
     let task = Task {
         place: 0,
@@ -97,8 +97,8 @@ fn unused(directory: Directory, idle: u32, spare: u32) -> Tables
         on: 0,
         running: 0,
         channel: 0,
-        idle: idle,
-        spare: spare,
+        freeTasks: freeTasks,
+        freeRequests: freeRequests,
         pools: [0; 4],
         tasks: [task; 25],
         requests: [request; 17],

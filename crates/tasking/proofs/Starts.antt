@@ -36,12 +36,12 @@ module _ {t : Tables} {c : Call} (p : Starting t c) where
   s = read t
 
   abbrev k : ℕ
-  k = least (s .idle)
+  k = least (s .freeTasks)
 
   pub block-low : k < 25
   block-low =
       let b = p .lawful .state .shape .blank in
-      omega (arith, least-low (s .idle) 25 (omega arith) (b .idle) (p .block) (b .idle-none))
+      omega (arith, least-low (s .freeTasks) 25 (omega arith) (b .freeTasks) (p .block) (b .freeTasks-none))
 
   pub new-loose : {u : Tables} → Shows u (created s k (c .number) 0) → Loose u k
   new-loose h =

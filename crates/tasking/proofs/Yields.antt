@@ -3,7 +3,7 @@ use mathlib.Core.Path.{ap}
 use mathlib.Core.Logic.{_≢_}
 use Prim.Native.Nat.{_<_}
 use native.Mathlib.Omega.{arith}
-use Rattle.threads.specs.Threads.{Free, counts}
+use Rattle.threads.specs.Threads.{Outside, counts}
 use Rattle.tables.specs.declared.Tables.{Tables}
 use Rattle.tables.specs.Blocks.{Ready}
 use Rattle.tables.specs.State.{State, taskAt, levelOf, read}
@@ -28,7 +28,7 @@ module _ {t : Tables} (g : LawfulTables t) (n : t .running ≢ 0) where
       let p = runs-stands h n .fields .program (λ z. omega (arith, z, runs-place h n)) in
       omega (arith, p, h .directory .modules)
 
-  pub can-lead : {u : Tables} → Shows u (stopped s Ready) → Free (u .threads) (levelOf s (s .running)) (s .running)
+  pub can-lead : {u : Tables} → Shows u (stopped s Ready) → Outside (u .threads) (levelOf s (s .running)) (s .running)
   unfolding stopped
   can-lead h =
       let i = caller (g .state) n in

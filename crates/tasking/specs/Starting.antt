@@ -9,4 +9,4 @@ use Rattle.lawful.specs.Tables.{LawfulTables}
 pub record Starting (t : Tables) (c : Call) : Type 0 where
   pub lawful : LawfulTables t
   pub program : c .number < t .directory .modules
-  pub block : t .idle ≢ 0
+  pub block : t .freeTasks ≢ 0

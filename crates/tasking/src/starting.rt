@@ -5,7 +5,7 @@ ghost use Rattle.threads.specs.Threads.{Sound};
 ghost use Rattle.tables.specs.State.{read};
 ghost use Rattle.tables.specs.Held.{Shows};
 ghost use Rattle.meaning.specs.Given.{Gives};
-ghost use Rattle.meaning.specs.Services.{stopped, link, schedule, start};
+ghost use Rattle.meaning.specs.Services.{stopped, link, schedule, operatorStart};
 ghost use Rattle.lawful.specs.Accepts.{Condition};
 ghost use Rattle.tasking.specs.Starting.{Starting};
 use blocks::free;
@@ -19,9 +19,9 @@ use waiting::wait;
 // A task with no parent is made in the lowest free block, and is made ready.
 pub fn start(t: Tables, c: Call) -> Given
     requires { ⌜ Starting t c ⌝ }
-    ensures { λ r. ⌜ Gives r (start (read t) c) ⌝ }
+    ensures { λ r. ⌜ Gives r (operatorStart (read t) c) ⌝ }
 {
-    let k = free::lowest(t.idle);
+    let k = free::lowest(t.freeTasks);
     let fresh = free::create(t, k, c.number, 0);
     let ready = ready::make_ready(fresh, k);
     Given {
@@ -35,7 +35,7 @@ pub fn schedule(t: Tables, c: Call) -> Given
     requires { ⌜ Starting t c × Condition (read t) c ⌝ }
     ensures { λ r. ⌜ Gives r (schedule (read t) c) ⌝ }
 {
-    let k = free::lowest(t.idle);
+    let k = free::lowest(t.freeTasks);
     let made = free::create(t, k, c.number, 0);
     if conditions::holds(t, c) {
         let ready = ready::make_ready(made, k);
@@ -69,7 +69,7 @@ pub fn link(t: Tables, c: Call) -> Given
     requires { ⌜ Starting t c × (t .running ≢ 0) ⌝ }
     ensures { λ r. ⌜ Gives r (link (read t) c) ⌝ }
 {
-    let k = free::lowest(t.idle);
+    let k = free::lowest(t.freeTasks);
     let child = free::create(t, k, c.number, t.running);
     let linked = stop(child, 6);
     let ready = ready::make_ready(linked, k);

@@ -1,7 +1,7 @@
 // Whose turn it is: DISPATCH CHECK and the timer.
 ghost use mathlib.Core.Logic.{_≢_};
 ghost use Rattle.calls.specs.declared.Call.{Call};
-ghost use Rattle.threads.specs.Threads.{Free};
+ghost use Rattle.threads.specs.Threads.{Outside};
 ghost use Rattle.tables.specs.State.{read, leading};
 ghost use Rattle.tables.specs.Held.{Shows};
 ghost use Rattle.meaning.specs.Refusals.{clockEnd};
@@ -14,7 +14,7 @@ use waiting::wake;
 
 // The task k, of no queue, at the front of the queue q.
 fn lead(t: Tables, q: u8, k: u8) -> Tables
-    requires { ⌜ Free (t .threads) q k ⌝ }
+    requires { ⌜ Outside (t .threads) q k ⌝ }
     ensures { λ r. ⌜ Shows r (leading (read t) q k) ⌝ }
 {
     let mut r = t;

@@ -6,7 +6,7 @@ use Prim.Native.Nat.{ℕ, suc, _+_, _≤_, _<_}
 use native.Mathlib.Omega.{arith}
 use lib.ListN.{length, set, getD, length-set}
 use lib.Seq.{set-set, set-getD, getD-set-same, append-snoc}
-use Rattle.threads.specs.Threads.{QUEUES, BLOCKS, hd, lst, count, counts, Apart, queue, without, insertBefore}
+use Rattle.threads.specs.Threads.{QUEUES, BLOCKS, hd, lst, count, counts, Apart, queueIn, without, insertBefore}
 use Rattle.threads.proofs.Lists.{tested, count-nil, count-hit, count-one, count-append, count-mid, counts-set, count-counts, last-in, without-at, insert-at}
 use Rattle.threads.proofs.Short.{length-once}
 
@@ -60,7 +60,7 @@ module _ {ls : List (List ℕ)} {q : ℕ} {A B : List ℕ} (s : Spot ls q A B) w
   self = ap (set ls q) (sym (s .split)) ∙ set-getD ls q []
 
   -- another list for the list q, and the old one again
-  changed : (l : List ℕ) → queue (set ls q l) q ≡ l
+  changed : (l : List ℕ) → queueIn (set ls q l) q ≡ l
   changed l = getD-set-same ls q l [] inside
 
   pub restored : (l : List ℕ) → ls ≡ set (set ls q l) q (A ++ B)
@@ -68,13 +68,13 @@ module _ {ls : List (List ℕ)} {q : ℕ} {A B : List ℕ} (s : Spot ls q A B) w
 
 -- the same, with the parts of a place written out
 module _ (ls : List (List ℕ)) (a : Apart ls) (q : ℕ) (h : q < QUEUES) where
-  pub member : (y : ℕ) → 1 ≤ count y (queue ls q) → (1 ≤ y) × (y ≤ BLOCKS) × (count y (queue ls q) ≡ 1)
+  pub member : (y : ℕ) → 1 ≤ count y (queueIn ls q) → (1 ≤ y) × (y ≤ BLOCKS) × (count y (queueIn ls q) ≡ 1)
   member y k =
-      let s : Spot ls q [] (queue ls q) = record { apart = a; queue = h; split = refl } in
+      let s : Spot ls q [] (queueIn ls q) = record { apart = a; queue = h; split = refl } in
       let b = sides s .1 y k in
       (b .0, b .1, omega (arith, once-here s y))
 
-  pub some-in-right : (A B : List ℕ) → queue ls q ≡ A ++ B → (y : ℕ) → 1 ≤ count y B → 1 ≤ y
+  pub some-in-right : (A B : List ℕ) → queueIn ls q ≡ A ++ B → (y : ℕ) → 1 ≤ count y B → 1 ≤ y
   some-in-right A B e y k =
       let s : Spot ls q A B = record { apart = a; queue = h; split = e } in
       sides s .1 y k .0
@@ -129,8 +129,8 @@ module _ {ls : List (List ℕ)} {q : ℕ} {A B : List ℕ} {x : ℕ} (s : Spot l
   new : count x A ≡ 0
   new = omega (arith, once-here s x, count-hit x x B refl)
 
-  pub spot-without : without x (queue ls q) ≡ A ++ B
+  pub spot-without : without x (queueIn ls q) ≡ A ++ B
   spot-without = ap (without x) (s .split) ∙ without-at x A B new
 
-  pub spot-insert : (v : ℕ) → insertBefore x v (queue ls q) ≡ A ++ v ∷ x ∷ B
+  pub spot-insert : (v : ℕ) → insertBefore x v (queueIn ls q) ≡ A ++ v ∷ x ∷ B
   spot-insert v = ap (insertBefore x v) (s .split) ∙ insert-at x v A B new

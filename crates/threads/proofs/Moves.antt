@@ -4,7 +4,7 @@ use mathlib.Core.List.{List, [], _∷_, _++_}
 use Prim.Native.Nat.{ℕ}
 use lib.ListN.{set}
 use Rattle.threads.specs.declared.Threads.{Threads}
-use Rattle.threads.specs.Threads.{hd, lst, threaded, Apart, queuesOf, Holds, Free}
+use Rattle.threads.specs.Threads.{hd, lst, threaded, Apart, queuesOf, Holds, Outside}
 use Rattle.threads.specs.Joints.{joined}
 use Rattle.threads.proofs.Laws.{restored, more, less}
 use Rattle.threads.proofs.Change.{Gap, unlinked, in-law, out-law}
@@ -14,7 +14,7 @@ use Rattle.threads.proofs.Places.{Place}
 holds : (ls : List (List ℕ)) → Apart ls → (t : Threads) → t ≡ threaded ls → Holds t ls
 holds ls a t e = let (s, l) = sound ls a t e in record { sound = s; lists = l }
 
-pub entered : {t : Threads} {q : ℕ} {A B : List ℕ} {p x s : ℕ} → Place t q A B p s → Free t q x
+pub entered : {t : Threads} {q : ℕ} {A B : List ℕ} {p x s : ℕ} → Place t q A B p s → Outside t q x
     → (r : Threads) → r ≡ joined (joined t q p x) q x s → Holds r (set (queuesOf t) q (A ++ x ∷ B))
 entered {t} {q} {A} {B} {p} {x} {s} w f r k =
     let m = more (w .spot) (f .none) (f .some) (f .low) in

@@ -5,7 +5,7 @@ use mathlib.Core.List.{List, [], _∷_, _++_, append-nil}
 use Prim.Native.Nat.{ℕ, _≤_, _<_}
 use lib.ListN.{getD}
 use Rattle.threads.specs.declared.Threads.{Threads}
-use Rattle.threads.specs.Threads.{QUEUES, BLOCKS, hd, lst, queue, queuesOf, Sound, Member}
+use Rattle.threads.specs.Threads.{QUEUES, BLOCKS, hd, lst, queueIn, queuesOf, Sound, Member}
 use Rattle.threads.proofs.Lists.{split, lst-append}
 use Rattle.threads.proofs.Laws.{Spot, first-low, last-low, sides, onward}
 use Rattle.threads.proofs.Read.{spot, first-of, last-of, next-of, prev-of}
@@ -21,17 +21,17 @@ low {A = A} {B} w = (rw (w .left) (last-low A (sides (w .spot) .0)), rw (w .righ
 
 -- the front of a queue, and its end
 module _ {t : Threads} {q : ℕ} (s : Sound t) (h : q < QUEUES) where
-  pub at-front : Place t q [] (queue (queuesOf t) q) 0 (getD (t .first) q 0)
+  pub at-front : Place t q [] (queueIn (queuesOf t) q) 0 (getD (t .first) q 0)
   at-front = record { sound = s; spot = spot s h [] _ refl; left = refl; right = first-of t s q h }
 
-  pub at-end : Place t q (queue (queuesOf t) q) [] (getD (t .last) q 0) 0
+  pub at-end : Place t q (queueIn (queuesOf t) q) [] (getD (t .last) q 0) 0
   at-end = record { sound = s; spot = spot s h _ [] (sym (append-nil _)); left = last-of t s q h; right = refl }
 
 -- the place before a member, and the place behind it
 pub around : {t : Threads} {q x : ℕ} → Member t q x → (A : List ℕ) × (B : List ℕ)
     × Place t q A (x ∷ B) (getD (t .back) x 0) x × Place t q (A ++ (x ∷ [])) B x (getD (t .fwd) x 0)
 around {t} {q} {x} m =
-    let (A, B, e) = split x (queue (queuesOf t) q) (m .here) in
+    let (A, B, e) = split x (queueIn (queuesOf t) q) (m .here) in
     let s = m .sound in
     let here = spot s (m .queue) A (x ∷ B) e in (
       A,

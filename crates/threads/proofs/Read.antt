@@ -9,7 +9,7 @@ use lib.ListN.{length, set, getD, length-map, List·getD-map}
 use lib.Seq.{ext-getD}
 use borrow.Author.Tests.{ne-eqb}
 use Rattle.threads.specs.declared.Threads.{Threads}
-use Rattle.threads.specs.Threads.{QUEUES, BLOCKS, hd, lst, after, before, flat, row, threaded, Apart, queue, walk, queuesOf, counts, Sound, Holds, Member, without}
+use Rattle.threads.specs.Threads.{QUEUES, BLOCKS, hd, lst, after, before, flat, row, threaded, Apart, queueIn, walk, queuesOf, counts, Sound, Holds, Member, without}
 use Rattle.threads.proofs.Lists.{split}
 use Rattle.threads.proofs.Rows.{row-at}
 use Rattle.threads.proofs.Laws.{Spot, first-block, member, sides, short, onward, less, restored, nowhere, spot-without}
@@ -41,11 +41,11 @@ along {B = b ∷ B} s (suc n) h =
     rw (ne-eqb b 0 (omega arith), made-next s) (ap (λ (l : List ℕ). b ∷ l) (along (onward s) n (le-of-suc-le-suc h)))
 
 module _ (ls : List (List ℕ)) (a : Apart ls) where
-  made-queue : (q : ℕ) → q < QUEUES → queue (queuesOf (threaded ls)) q ≡ queue ls q
+  made-queue : (q : ℕ) → q < QUEUES → queueIn (queuesOf (threaded ls)) q ≡ queueIn ls q
   unfolding queuesOf threaded
   made-queue q h =
       let ahead : ℕ → List ℕ = walk (row (after (flat ls))) (suc BLOCKS) in
-      let front : Spot ls q [] (queue ls q) = record { apart = a; queue = h; split = refl } in
+      let front : Spot ls q [] (queueIn ls q) = record { apart = a; queue = h; split = refl } in
       ap (getD (map ahead (map hd ls)) q) (sym (walk-zero (row (after (flat ls))) (suc BLOCKS)))
       ∙ List·getD-map ahead (map hd ls) q 0 ∙ ap ahead (List·getD-map hd ls q []) ∙ along front (suc BLOCKS) (short front)
 
@@ -66,19 +66,19 @@ module _ (ls : List (List ℕ)) (a : Apart ls) where
 pub determined : {t u : Threads} {ls : List (List ℕ)} → Holds t ls → Holds u ls → t ≡ u
 determined h k = h .sound .canon ∙ ap threaded (h .lists ∙ sym (k .lists)) ∙ sym (k .sound .canon)
 
-pub spot : {t : Threads} {q : ℕ} → Sound t → q < QUEUES → (A B : List ℕ) → queue (queuesOf t) q ≡ A ++ B → Spot (queuesOf t) q A B
+pub spot : {t : Threads} {q : ℕ} → Sound t → q < QUEUES → (A B : List ℕ) → queueIn (queuesOf t) q ≡ A ++ B → Spot (queuesOf t) q A B
 spot s h A B e = record { apart = s .apart; queue = h; split = e }
 
 module _ (t : Threads) (s : Sound t) (q : ℕ) (h : q < QUEUES) where
-  pub first-of : getD (t .first) q 0 ≡ hd (queue (queuesOf t) q)
+  pub first-of : getD (t .first) q 0 ≡ hd (queueIn (queuesOf t) q)
   unfolding threaded
   first-of = ap (λ (u : Threads). getD (u .first) q 0) (s .canon) ∙ List·getD-map hd (queuesOf t) q []
 
-  pub last-of : getD (t .last) q 0 ≡ lst 0 (queue (queuesOf t) q)
+  pub last-of : getD (t .last) q 0 ≡ lst 0 (queueIn (queuesOf t) q)
   unfolding threaded
   last-of = ap (λ (u : Threads). getD (u .last) q 0) (s .canon) ∙ List·getD-map (lst 0) (queuesOf t) q []
 
-  module _ (A B : List ℕ) (x : ℕ) (e : queue (queuesOf t) q ≡ A ++ x ∷ B) where
+  module _ (A B : List ℕ) (x : ℕ) (e : queueIn (queuesOf t) q ≡ A ++ x ∷ B) where
     pub next-of : getD (t .fwd) x 0 ≡ hd B
     unfolding threaded
     next-of = ap (λ (u : Threads). getD (u .fwd) x 0) (s .canon) ∙ made-next (spot s h A (x ∷ B) e)
@@ -88,7 +88,7 @@ module _ (t : Threads) (s : Sound t) (q : ℕ) (h : q < QUEUES) where
     prev-of = ap (λ (u : Threads). getD (u .back) x 0) (s .canon) ∙ made-prev (spot s h A (x ∷ B) e)
 
 -- along the pointers forward from a place
-pub walked : {t : Threads} {q : ℕ} → Sound t → q < QUEUES → (A B : List ℕ) → queue (queuesOf t) q ≡ A ++ B → walk (t .fwd) (suc BLOCKS) (hd B) ≡ B
+pub walked : {t : Threads} {q : ℕ} → Sound t → q < QUEUES → (A B : List ℕ) → queueIn (queuesOf t) q ≡ A ++ B → walk (t .fwd) (suc BLOCKS) (hd B) ≡ B
 unfolding threaded
 walked s h A B e =
     let p = spot s h A B e in
@@ -102,8 +102,8 @@ module _ {t : Threads} {q x : ℕ} (m : Member t q x) where
   pub node-fits : x < suc BLOCKS
   node-fits = omega (arith, member (queuesOf t) (m .sound .apart) q (m .queue) x (m .here))
 
-  pub gone : counts x (set (queuesOf t) q (without x (queue (queuesOf t) q))) ≡ 0
+  pub gone : counts x (set (queuesOf t) q (without x (queueIn (queuesOf t) q))) ≡ 0
   gone =
-      let (A, B, e) = split x (queue (queuesOf t) q) (m .here) in
+      let (A, B, e) = split x (queueIn (queuesOf t) q) (m .here) in
       let p = spot (m .sound) (m .queue) A (x ∷ B) e in
       rw (spot-without p) (nowhere p)

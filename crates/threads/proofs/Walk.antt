@@ -6,7 +6,7 @@ use Prim.Native.Nat.{ℕ, suc, _≤_, _<_}
 use native.Mathlib.Omega.{arith}
 use lib.ListN.{length, getD}
 use Rattle.threads.specs.declared.Threads.{Threads}
-use Rattle.threads.specs.Threads.{QUEUES, BLOCKS, hd, count, walk, queue, queuesOf, Sound, Member, without, insertBefore}
+use Rattle.threads.specs.Threads.{QUEUES, BLOCKS, hd, count, walk, queueIn, queuesOf, Sound, Member, without, insertBefore}
 use Rattle.threads.proofs.Lists.{count-append, count-hit}
 use Rattle.threads.proofs.Laws.{Spot, some-in-right, onward, spot-without, spot-insert}
 use Rattle.threads.proofs.Read.{spot, next-of, walked}
@@ -21,7 +21,7 @@ pub closed : (B : List ℕ) → ((y : ℕ) → 1 ≤ count y B → 1 ≤ y) → 
 closed [] m k = refl
 closed (b ∷ B) m k = absurd (omega (arith, m b (omega (arith, count-hit b b B refl))))
 
-module _ {t : Threads} {q y : ℕ} (s : Sound t) (h : q < QUEUES) (A B : List ℕ) (e : queue (queuesOf t) q ≡ A ++ B) (k : y ≡ hd B) (n : y ≢ 0) where
+module _ {t : Threads} {q y : ℕ} (s : Sound t) (h : q < QUEUES) (A B : List ℕ) (e : queueIn (queuesOf t) q ≡ A ++ B) (k : y ≡ hd B) (n : y ≢ 0) where
   at-y : Spot (queuesOf t) q A (y ∷ tail B)
   at-y = spot s h A (y ∷ tail B) (e ∙ ap (λ (l : List ℕ). A ++ l) (opened B y k n))
 
@@ -33,17 +33,17 @@ module _ {t : Threads} {q y : ℕ} (s : Sound t) (h : q < QUEUES) (A B : List �
         here = omega (arith, ap (count y) (at-y .split), count-append y A (y ∷ tail B), count-hit y y (tail B) refl);
       }
 
-  pub at-without : without y (queue (queuesOf t) q) ≡ A ++ tail B
+  pub at-without : without y (queueIn (queuesOf t) q) ≡ A ++ tail B
   at-without = spot-without at-y
 
-  pub at-insert : (v : ℕ) → insertBefore y v (queue (queuesOf t) q) ≡ A ++ v ∷ y ∷ tail B
+  pub at-insert : (v : ℕ) → insertBefore y v (queueIn (queuesOf t) q) ≡ A ++ v ∷ y ∷ tail B
   at-insert = spot-insert at-y
 
   -- the next turn, which has less ahead of it
   pub at-next : getD (t .fwd) y 0 ≡ hd (tail B)
   at-next = next-of t s q h A (tail B) y (at-y .split)
 
-  pub at-split : queue (queuesOf t) q ≡ A ++ (y ∷ []) ++ tail B
+  pub at-split : queueIn (queuesOf t) q ≡ A ++ (y ∷ []) ++ tail B
   at-split = onward at-y .split
 
   pub at-less : length (walk (t .fwd) (suc BLOCKS) (getD (t .fwd) y 0)) < length (walk (t .fwd) (suc BLOCKS) y)
@@ -56,8 +56,8 @@ module _ {t : Threads} {q y : ℕ} (s : Sound t) (h : q < QUEUES) (A B : List �
       )
 
 -- where y is 0, the loop has passed all
-pub none-ahead : {t : Threads} {q : ℕ} → Sound t → q < QUEUES → (A B : List ℕ) → queue (queuesOf t) q ≡ A ++ B → hd B ≡ 0 → B ≡ []
+pub none-ahead : {t : Threads} {q : ℕ} → Sound t → q < QUEUES → (A B : List ℕ) → queueIn (queuesOf t) q ≡ A ++ B → hd B ≡ 0 → B ≡ []
 none-ahead {t} {q} s h A B e z = closed B (some-in-right (queuesOf t) (s .apart) q h A B e) z
 
-pub none-first : {t : Threads} {q : ℕ} → Sound t → q < QUEUES → hd (queue (queuesOf t) q) ≡ 0 → queue (queuesOf t) q ≡ []
+pub none-first : {t : Threads} {q : ℕ} → Sound t → q < QUEUES → hd (queueIn (queuesOf t) q) ≡ 0 → queueIn (queuesOf t) q ≡ []
 none-first s h z = none-ahead s h [] _ refl z

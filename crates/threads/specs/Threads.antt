@@ -98,11 +98,11 @@ pub record Holds (t : Threads) (ls : List (List ℕ)) : Type 0 where
   pub lists : queuesOf t ≡ ls
 
 -- the list of the queue q
-abbrev pub queue : List (List ℕ) → ℕ → List ℕ
-queue ls q = getD ls q []
+abbrev pub queueIn : List (List ℕ) → ℕ → List ℕ
+queueIn ls q = getD ls q []
 
 -- t is sound, q is a queue, and x is a block of no queue: what a function that puts x into q asks
-pub record Free (t : Threads) (q x : ℕ) : Type 0 where
+pub record Outside (t : Threads) (q x : ℕ) : Type 0 where
   pub sound : Sound t
   pub queue : q < QUEUES
   pub some : 1 ≤ x

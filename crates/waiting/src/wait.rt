@@ -3,7 +3,7 @@ ghost use mathlib.Core.Path.{_≡_};
 ghost use mathlib.Core.Logic.{_≢_};
 ghost use Prim.Native.Nat.{ℕ, _^_, _<_};
 ghost use lib.ListN.{getD};
-ghost use Rattle.threads.specs.Threads.{Free};
+ghost use Rattle.threads.specs.Threads.{Outside};
 ghost use Rattle.tables.specs.Blocks.{awaitingEvents, awaitingTime};
 ghost use Rattle.tables.specs.State.{read, taskAt, eventQueue, timeQueue};
 ghost use Rattle.tables.specs.Held.{Held, Loose, Shows};
@@ -41,7 +41,7 @@ fn awaiting_time(task: Task, time: u32) -> Task
 
 // The task k, of no queue, waits for the events of a call.
 pub fn wait_for_events(t: Tables, k: u8, c: Call) -> Tables
-    requires { ⌜ Free (t .threads) eventQueue k × (k < 25) ⌝ }
+    requires { ⌜ Outside (t .threads) eventQueue k × (k < 25) ⌝ }
     ensures { λ r. ⌜ Shows r (awaitsEvents (read t) k c) ⌝ }
 {
     let x = awaiting_events(t.tasks[k as usize], c.value, c.events);
@@ -63,7 +63,7 @@ fn times(t: Tables) -> [u32; 41]
 
 // The task k, of no queue, enters the time queue by the time of its block.
 fn enter_time(t: Tables, k: u8) -> Tables
-    requires { ⌜ Held t × Free (t .threads) timeQueue k × (k < 25) ⌝ }
+    requires { ⌜ Held t × Outside (t .threads) timeQueue k × (k < 25) ⌝ }
     ensures { λ r. ⌜ Shows r (inTime (read t) k) ⌝ }
 {
     let mut r = t;
@@ -74,7 +74,7 @@ fn enter_time(t: Tables, k: u8) -> Tables
 
 // The task k, of no queue, waits for the time of a call.
 pub fn wait_for_time(t: Tables, k: u8, c: Call) -> Tables
-    requires { ⌜ Held t × Free (t .threads) timeQueue k × (k < 25) × (dueOf (read t) c < 2 ^ 32) ⌝ }
+    requires { ⌜ Held t × Outside (t .threads) timeQueue k × (k < 25) × (dueOf (read t) c < 2 ^ 32) ⌝ }
     ensures { λ r. ⌜ Shows r (awaitsTime (read t) k c) ⌝ }
 {
     let mut r = t;

@@ -5,9 +5,9 @@ use mathlib.Core.List.{List, [], _∷_}
 use Prim.Native.Nat.{ℕ, _≤_}
 use lib.ListN.{set, replicate}
 use lib.Dec.{lit<, lit≤}
-use Rattle.words.specs.Words.{placedBy}
+use Rattle.words.specs.Words.{insertedBy}
 use Rattle.threads.specs.declared.Threads.{Threads}
-use Rattle.threads.specs.Threads.{QUEUES, BLOCKS, Holds, Free, Member, count, counts, without, insertBefore}
+use Rattle.threads.specs.Threads.{QUEUES, BLOCKS, Holds, Outside, Member, count, counts, without, insertBefore}
 use Rattle.threads_demo.proofs.main.Statement.{statement}
 use Rattle.threads_demo.proofs.main.Tie as tie
 
@@ -15,7 +15,7 @@ use Rattle.threads_demo.proofs.main.Tie as tie
 abbrev only : List ℕ → List (List ℕ)
 only l = set (replicate QUEUES []) 7 l
 
-free : {t : Threads} {l : List ℕ} (x : ℕ) → Holds t (only l) → 1 ≤ x → x ≤ BLOCKS → counts x (only l) ≡ 0 → Free t 7 x
+free : {t : Threads} {l : List ℕ} (x : ℕ) → Holds t (only l) → 1 ≤ x → x ≤ BLOCKS → counts x (only l) ≡ 0 → Outside t 7 x
 free x h some low none = record { sound = h .sound; queue = lit< tt; some = some; low = low; none = ap (counts x) (h .lists) ∙ none }
 
 within : {t : Threads} {l : List ℕ} (x : ℕ) → Holds t (only l) → 1 ≤ count x l → Member t 7 x
@@ -39,11 +39,11 @@ unfolding without
 after-remove c = rw (after-insert (c .before .before) .lists) at (c .remove .ensures)
 
 after-enter : (c : tie.After-enter) → Holds (c .enter .result) (only (40 ∷ 1 ∷ 9 ∷ 25 ∷ []))
-unfolding placedBy
+unfolding insertedBy
 after-enter c = rw (after-remove (c .before .before .before) .lists, c .before .keys .ensures) at (c .enter .ensures)
 
 after-enter2 : (c : tie.After-enter2) → Holds (c .enter2 .result) (only (40 ∷ 1 ∷ 9 ∷ 25 ∷ 2 ∷ []))
-unfolding placedBy
+unfolding insertedBy
 after-enter2 c = rw (after-enter (c .before .before) .lists, c .before .before .before .keys .ensures) at (c .enter2 .ensures)
 
 empty-requires : tie.Need-empty-requires

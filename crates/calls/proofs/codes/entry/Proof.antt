@@ -1,7 +1,7 @@
 -- `codes::entry` meets its contract: below 36 by the test over the whole table, which is computed here; past it no code is known.
 use Prim.Native.Nat.{_<_}
 use Rattle.words.specs.Words.{below, allOf, _among_}
-use Rattle.calls.specs.Calls.{known, needsTask, entryOf}
+use Rattle.calls.specs.Calls.{known, needsTask, codeEntry}
 use Rattle.calls.proofs.Entries.{table-right, entry-past}
 use borrow.Author.Needs.{needs}
 use Rattle.calls.proofs.codes.entry.Statement.{statement}
@@ -11,7 +11,7 @@ array-read-result : tie.Need-array-read-result
 array-read-result c = search needs
 
 returns : tie.Need-returns
-unfolding allOf below entryOf needsTask known _among_
+unfolding allOf below codeEntry needsTask known _among_
 returns c = let low : c .before .args .code < 36 = search needs in rw table-right
 
 returns-2 : tie.Need-returns-2

@@ -11,7 +11,7 @@ blank-request-requires c κs = search needs
 returns : tie.Need-returns
 returns c =
     let a = c .before .before .before .args in
-    free-request (a .stands) (a .on) (a .free) (usedBy (a .idle) (a .q .owner)) (a .q) (c .blank-request .ensures) (c .before .if1 .taken)
+    free-request (a .stands) (a .on) (a .free) (usedBy (a .freeTasks) (a .q .owner)) (a .q) (c .blank-request .ensures) (c .before .if1 .taken)
 
 request-in-range-requires : tie.Need-request-in-range-requires
 request-in-range-requires c κs = search needs
@@ -25,7 +25,7 @@ used-requires c κs = search needs
 returns-2 : tie.Need-returns-2
 returns-2 c =
     let a = c .before .before .before .before .before .before .args in
-    used-request (a .stands) (a .on) (a .free) (usedBy (a .idle) (a .q .owner)) (a .q) (c .before .before .before .request-in-range .ensures)
+    used-request (a .stands) (a .on) (a .free) (usedBy (a .freeTasks) (a .q .owner)) (a .q) (c .before .before .before .request-in-range .ensures)
     (c .before .before .request-queue .ensures) (c .used .ensures) (c .before .before .before .before .if1 .left)
 
 pub request-right-spec : {M : Type 1} → statement M

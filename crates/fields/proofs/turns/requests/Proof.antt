@@ -14,12 +14,12 @@ use Rattle.fields.proofs.turns.requests.Statement.{statement}
 use Rattle.fields.proofs.turns.requests.Tie as tie
 
 abbrev Inv-loop : tie.InvT-loop
-Inv-loop idle spare channel requests marks right₀ owners₀ r₀ right owners r =
-    (r ≤ 16) × (right ≡ allOf (requestMarked requests marks idle spare channel) (oneTo r))
+Inv-loop freeTasks freeRequests channel requests marks right₀ owners₀ r₀ right owners r =
+    (r ≤ 16) × (right ≡ allOf (requestMarked requests marks freeTasks freeRequests channel) (oneTo r))
     × ((k : ℕ) → k ≤ 24 → has owners k ≡ someOf (λ n. pends k (getD requests n noRequest)) (oneTo r))
 
 abbrev μ-loop : tie.MeasureT-loop
-μ-loop idle spare channel requests marks right₀ owners₀ r₀ right owners r = 16 - r
+μ-loop freeTasks freeRequests channel requests marks right₀ owners₀ r₀ right owners r = 16 - r
 
 loop-holds : tie.Need-loop-holds Inv-loop μ-loop
 loop-holds c = (search needs, gather-start _, λ k l. has-none k ∙ some-start _)
@@ -66,7 +66,7 @@ loop-again c =
     let l = c .before .before .before .before .loop in
     let a = c .before .before .before .before .before .args in (
       search needs,
-      gather-next (requestMarked (a .t1) (a .t2) (a .idle) (a .spare) (a .channel)) (l .r) (l .right) (c .before .request-right .result) (l .inv .1)
+      gather-next (requestMarked (a .t1) (a .t2) (a .freeTasks) (a .freeRequests) (a .channel)) (l .r) (l .right) (c .before .request-right .result) (l .inv .1)
           (c .before .request-right .ensures),
       λ k h. c .with-owner .ensures k h
           ∙ some-next (λ n. pends k (getD (a .t1) n noRequest)) (l .r) (has (l .owners) k) (pends k (getD (a .t1) (l .r + 1) noRequest)) (l .inv .2 k h) refl,

@@ -6,7 +6,7 @@ use Rattle.lawful.proofs.Truth.{both}
 use Rattle.fields.proofs.Slots.{no-entry, asked, not-asked}
 use Rattle.pointers.proofs.Tests.{gather-start, gather-next, gather-end}
 use Rattle.fields.specs.Blocks.{pends, taskPasses}
-use Rattle.tables.specs.State.{read, taskAt, requestAt, entryOf}
+use Rattle.tables.specs.State.{read, taskAt, requestAt, entryFor}
 use Rattle.words.specs.Words.{_implies_, oneTo, allOf}
 use lib.ListN.{length-map}
 use lib.Dec.{eqb, ltb}
@@ -110,7 +110,7 @@ loop-again-2 c =
     let a = c .before .before .before .before .before .before .before .before .before .before .before .before in
     let s = read (a .args .t1) in
     let x = taskAt s (l .k + 1) in
-    let e : c .before .before .before .if2 .e ≡ entryOf s (l .k + 1) =
+    let e : c .before .before .before .if2 .e ≡ entryFor s (l .k + 1) =
     ⊎-elim (λ w. w .3)
     (λ w. w .1 ∙ c .before .before .before .before .before .no-entry .ensures
     ∙ no-entry (s .directory .entries) (x .program) (omega (arith, simp length-map at (a .good .0 .1 .1 .0 .1 .1 .1 .1 .1 .0 .1 .0 .1))))

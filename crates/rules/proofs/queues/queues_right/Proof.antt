@@ -5,7 +5,7 @@ use Rattle.rules.proofs.Climbing.{Climbing, climbing-start, climbing-le
 use Rattle.rules.proofs.Firsts.{firstWaits, waiter-low, waiter-module, first-turn, busy-told, channel-told}
 use Rattle.pointers.proofs.Tests.{gather-start, gather-next, gather-end}
 use Rattle.meaning.specs.Channel.{channelLevel}
-use Rattle.meaning.specs.Rules.{busy, channelBusy, coreWaits, queuesInOrder}
+use Rattle.meaning.specs.Rules.{idleOnlyIfNoneReady, channelBusy, coreWaits, queuesInOrder}
 use Rattle.tables.specs.State.{State, timeQueue, channelQueue, taskAt, queue, read}
 use Rattle.threads.specs.Threads.{walk}
 use Rattle.words.specs.Words.{oneTo, allOf, upBy}
@@ -258,9 +258,9 @@ channel-busy-requires : tie.Need-channel-busy-requires Inv-loop μ-loop Inv-loop
 channel-busy-requires c κs = search needs
 
 -- the five rules, joined
-whole : (s : State) {a b c d e : Bool} → a ≡ busy s → b ≡ coreWaits s → c ≡ upBy (λ k. taskAt s k .time) (queue s timeQueue)
+whole : (s : State) {a b c d e : Bool} → a ≡ idleOnlyIfNoneReady s → b ≡ coreWaits s → c ≡ upBy (λ k. taskAt s k .time) (queue s timeQueue)
     → d ≡ upBy (channelLevel s) (queue s channelQueue) → e ≡ channelBusy s
-    → (a && b && (c && d) && e) ≡ (busy s && coreWaits s && queuesInOrder s && channelBusy s)
+    → (a && b && (c && d) && e) ≡ (idleOnlyIfNoneReady s && coreWaits s && queuesInOrder s && channelBusy s)
 unfolding queuesInOrder
 whole s i j k l m = rw (i, j, k, l, m)
 

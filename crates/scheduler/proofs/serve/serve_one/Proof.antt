@@ -5,7 +5,7 @@ use native.Mathlib.Omega.{arith}
 use Rattle.threads.specs.Threads.{counts}
 use Rattle.tables.proofs.Held.{left-out}
 use Rattle.tables.specs.State.{State, coreQueue, leaving, read}
-use Rattle.meaning.specs.Ready.{granted}
+use Rattle.meaning.specs.Ready.{givenRun}
 use Rattle.scheduler.proofs.Served.{seated-as, moved-start}
 use Rattle.scheduler.proofs.Granted.{granted-out}
 use Rattle.scheduler.proofs.serve.serve_one.Statement.{statement}
@@ -38,7 +38,7 @@ put-in-requires c κs =
     let p = s .pre in
     let e = c .grant .ensures in
     let l = c .before .leave .ensures in
-    let out = ap (λ (x : State). counts (s .args .k) (granted x (s .args .k) .queues)) (l .reads) ∙ granted-out (leaving (read (s .args .t)) (coreQueue (s .args .level)) (s .args .k)) (s .args .k) (s .args .k) (left-out (p .member)) in (
+    let out = ap (λ (x : State). counts (s .args .k) (givenRun x (s .args .k) .queues)) (l .reads) ∙ granted-out (leaving (read (s .args .t)) (coreQueue (s .args .level)) (s .args .k)) (s .args .k) (s .args .k) (left-out (p .member)) in (
       record {
         sound = e .sound;
         queue = omega (arith, p .worst);
@@ -52,7 +52,7 @@ put-in-requires c κs =
 returns : tie.Need-returns
 returns c =
     let s = c .before .before .before in
-    let e = c .before .grant .ensures .reads ∙ ap (λ (x : State). granted x (s .args .k)) (c .before .before .leave .ensures .reads) in
+    let e = c .before .grant .ensures .reads ∙ ap (λ (x : State). givenRun x (s .args .k)) (c .before .before .leave .ensures .reads) in
     rw (← seated-as (read (s .args .t)) (coreQueue (s .args .level)) (s .args .k), s .pre .waiter .own, ← e) (c .put-in .ensures)
 
 pub serve-one-spec : {M : Type 1} → statement M

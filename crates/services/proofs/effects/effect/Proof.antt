@@ -4,7 +4,7 @@ use mathlib.Core.Path.{refl}
 use mathlib.Core.List.{[], _∷_}
 use Rattle.words.specs.Words.{_among_}
 use Rattle.calls.specs.Calls.{needsTask}
-use Rattle.meaning.specs.Services.{freemain, end, wait, signal, dispatchCheck, check, timer, transferred, programCheck}
+use Rattle.meaning.specs.Services.{freemain, end, wait, signal, dispatchCheck, check, timer, ioDone, programCheck}
 use Rattle.lawful.proofs.Keeps.{one-of, needs as needs-task}
 use Rattle.services.proofs.Coded.{starting, starting-at, transferring, by-rest, at-freemain, at-link, at-end, at-schedule, at-wait, at-signal, at-test-event, at-dispatch-check, at-read, at-write, at-check, at-timer, at-transferred, at-program-check, at-start, done, same}
 use Rattle.services.proofs.effects.effect.Statement.{statement}
@@ -167,7 +167,7 @@ unfolding timer
 returns-12 c = done (at-timer _ _ (c .before .before .match .keys12)) (c .one7 .ensures) (c .before .timer .ensures (c .before .before .before .args .c)) refl
 
 returns-13 : tie.Need-returns-13
-unfolding transferred
+unfolding ioDone
 returns-13 c = done (at-transferred _ _ (c .before .before .match .keys13)) (c .one8 .ensures) (c .before .io-done .ensures (c .before .before .before .args .c)) refl
 
 returns-14 : tie.Need-returns-14

@@ -1,6 +1,6 @@
 -- `starting::start` meets its contract: the lowest free block is taken, and made ready.
 use borrow.Author.Needs.{needs}
-use Rattle.meaning.specs.Services.{start}
+use Rattle.meaning.specs.Services.{operatorStart}
 use Rattle.tasking.proofs.Starts.{block-low, new-loose}
 use Rattle.tasking.proofs.starting.start.Statement.{statement}
 use Rattle.tasking.proofs.starting.start.Tie as tie
@@ -17,7 +17,7 @@ make-ready-requires : tie.Need-make-ready-requires
 make-ready-requires c κs = rw (c .before .lowest .ensures) (new-loose (c .before .before .pre) (rw (c .before .lowest .ensures) at (c .create .ensures)))
 
 returns : tie.Need-returns
-unfolding start
+unfolding operatorStart
 returns c =
     let b = c .before .before .lowest .ensures in
     record { shows = rw (← b, ← c .before .create .ensures .reads) (c .make-ready .ensures); result = b }
