@@ -62,7 +62,7 @@ module _ {s : State} {k : ℕ} (i : InHand s k [] 0) (r : Rest s []) (u : 1 ≤ 
     abbrev p : ℕ
     p = taskAt s k .parent
 
-    grabbed : InHand s p (k ∷ []) p
+    pub grabbed : InHand s p (k ∷ []) p
     grabbed = grab (i .shape) p (omega (arith, z)) (parent-low (i .shape) k (i .low) z (i .some)) (parent-links (i .shape) k (i .low) z (i .some))
 
     apart : p ≢ k

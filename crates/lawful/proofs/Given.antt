@@ -46,7 +46,7 @@ pub record GivesBack (s s′ : State) (k : ℕ) (h : List ℕ) (e : ℕ) (m : Li
 
 module _ {s : State} {h : List ℕ} {e : ℕ} {m : List ℕ} (g : Shape s h e) (r : Rest s m) (k : ℕ) (some : 1 ≤ k) (low : k ≤ 24) where
   module _ (o : taskAt s k .core ≡ 1) where
-    abbrev freed : State
+    abbrev pub freed : State
     freed = coring s k 2 0 (levelOf s k) (poolAt s (levelOf s k) - run (taskAt s k .start) (unitsOf s k))
 
     kept : (f : Task → ℕ) → f (recored s k 2 0 0 0) ≡ f (taskAt s k) → (y : ℕ) → f (taskAt freed y) ≡ f (taskAt s y)
@@ -60,7 +60,7 @@ module _ {s : State} {h : List ℕ} {e : ℕ} {m : List ℕ} (g : Shape s h e) (
         (λ z. omega (arith, z))
         (λ z. let c = member-core g k (coreQueue level) (omega arith) z (omega arith) (omega arith) .0 in absurd (omega (arith, w .fields .waits c .1, o))) (under-or-from (count k (queue s (coreQueue level))) 1)
 
-    freed-rest : RestBut freed m (levelOf s k)
+    pub freed-rest : RestBut freed m (levelOf s k)
     unfolding enough
     freed-rest =
         record {

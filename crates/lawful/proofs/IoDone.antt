@@ -175,13 +175,16 @@ module _ {s : State} (g : Lawful s) (n : s .channel ≢ 0) where
   freed-rest = rest-freed (s .channel) (excused g n)
 
   -- it is ending, and this was its last
-  pub freed-finishes : taskAt s (owner s) .place ≡ Ending → pending (off s) (owner s) ≡ false
-      → Finishes (freedRequest (off s) (s .channel)) (finished (freedRequest (off s) (s .channel)) (owner s)) (owner s) [] (0 ∷ [])
-  freed-finishes p q =
+  pub last-quiet : taskAt s (owner s) .place ≡ Ending → pending (off s) (owner s) ≡ false
+      → (j : ℕ) → Pending (freedRequest (off s) (s .channel) .requests) (owner s) j → ⊥
+  last-quiet p q =
       let d = ap (λ (x : Request). x .place) (over-same n (g .shape)) in
       let o = owner-off n (owner-hand (omega (arith, p))) .shape in
-      let w = clear-free (owner-used .0) o (excused g n) (quiet-of (off s) (owner s) q) (s .channel) (omega arith) (g .shape .blank .channel) d in
-      finish (freed-hand (omega (arith, p))) freed-rest (w .clears .quiet)
+      clear-free (owner-used .0) o (excused g n) (quiet-of (off s) (owner s) q) (s .channel) (omega arith) (g .shape .blank .channel) d .clears .quiet
+
+  pub freed-finishes : taskAt s (owner s) .place ≡ Ending → pending (off s) (owner s) ≡ false
+      → Finishes (freedRequest (off s) (s .channel)) (finished (freedRequest (off s) (s .channel)) (owner s)) (owner s) [] (0 ∷ [])
+  freed-finishes p q = finish (freed-hand (omega (arith, p))) freed-rest (last-quiet p q)
 
 -- ---- The three cases.
 module _ {s : State} (g : Lawful s) (n : s .channel ≢ 0) where

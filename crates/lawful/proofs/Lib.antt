@@ -49,6 +49,9 @@ pub mod Keeps
 pub mod Small
 pub mod Chain
 pub mod Stays
+pub mod Turns
+pub mod GetsInTurn
+pub mod Overtakes
 pub mod Accepted
 pub mod Corollaries
 -- The rules as tests and as records.

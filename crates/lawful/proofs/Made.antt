@@ -254,7 +254,7 @@ module _ {s : State} {k : ℕ} {h : List ℕ} {e : ℕ} (i : InHand s k h e) whe
         requested = refl;
       }
 
-  granted-core : taskAt (givenRun s k) k .core ≡ 1
+  pub granted-core : taskAt (givenRun s k) k .core ≡ 1
   unfolding givenRun
   granted-core = ap (λ (t : Task). t .core) (getD-set-same (s .tasks) k _ noTask (omega (arith, i .shape .sizes .tasks, i .low)))
 

@@ -67,7 +67,7 @@ module _ {s : State} {h : List ℕ} {e : ℕ} {level : ℕ} {m : List ℕ} (g : 
     low : coreQueue level < 8
     low = omega arith
 
-    own : levelOf s k ≡ level
+    pub own : levelOf s k ≡ level
     own = let p = member-core g k (coreQueue level) low here (omega arith) (omega arith) .1 in omega (arith, p)
 
     -- the first does not fit
@@ -92,10 +92,10 @@ module _ {s : State} {h : List ℕ} {e : ℕ} {level : ℕ} {m : List ℕ} (g : 
         }
 
     -- the first fits, and is seated
-    hand : InHand (leaving s (coreQueue level) k) k h e
+    pub hand : InHand (leaving s (coreQueue level) k) k h e
     hand = leave g k (coreQueue level) low here
 
-    needing : needsCore (leaving s (coreQueue level) k) k ≡ true
+    pub needing : needsCore (leaving s (coreQueue level) k) k ≡ true
     needing =
         let p = member-core g k (coreQueue level) low here (omega arith) (omega arith) .0 in
         let c = member-stands g k (coreQueue level) low here .fields .waits p in
@@ -105,13 +105,13 @@ module _ {s : State} {h : List ℕ} {e : ℕ} {level : ℕ} {m : List ℕ} (g : 
     unfolding seated startFor
     seat f = seats hand needing f
 
-    gone : queue (leaving s (coreQueue level) k) (coreQueue level) ≡ l
+    pub gone : queue (leaving s (coreQueue level) k) (coreQueue level) ≡ l
     gone = set-queue (s .queues) (coreQueue level) _ (g .sizes .queues) (omega arith) ∙ ap (without k) q ∙ without-at k [] l (count-nil k)
 
-    others : (i : ℕ) → i ≢ coreQueue level → queue (leaving s (coreQueue level) k) i ≡ queue s i
+    pub others : (i : ℕ) → i ≢ coreQueue level → queue (leaving s (coreQueue level) k) i ≡ queue s i
     others i n = set-others (s .queues) (coreQueue level) (without k (queue s (coreQueue level))) (g .sizes .queues) (omega arith) i n
 
-    seat-rest : startFor s k < 64 → RestBut (seated s (coreQueue level) k) m level
+    pub seat-rest : startFor s k < 64 → RestBut (seated s (coreQueue level) k) m level
     unfolding enough
     seat-rest f =
         let d = seat f in
@@ -127,7 +127,7 @@ module _ {s : State} {h : List ℕ} {e : ℕ} {level : ℕ} {m : List ℕ} (g : 
           flowing = record { flowing = λ x c. d .frame .requested ∙ others channelQueue (λ z. omega (arith, z)) ∙ r .flowing .flowing x (sym (d .frame .channel) ∙ c) };
         }
 
-    seat-queue : startFor s k < 64 → queue (seated s (coreQueue level) k) (coreQueue level) ≡ l
+    pub seat-queue : startFor s k < 64 → queue (seated s (coreQueue level) k) (coreQueue level) ≡ l
     seat-queue f = seat f .waiting level lo hi ∙ gone
 
     seat-frame : (f : startFor s k < 64) {s′ : State} → Served (seated s (coreQueue level) k) s′ level → Served s s′ level

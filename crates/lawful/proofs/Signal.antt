@@ -135,16 +135,18 @@ pub added-le : (w n d u : ℕ) → bit d n ≡ 1 → ((v : ℕ) → bit w v ≤ 
 added-le w n d u e f =
     ⊎-elim (λ z. rw (z .1) (omega (arith, added-same w n, e))) (λ z. omega (arith, added-other w n u (z .1), f u)) (tested u n)
 
-pub on-keeps : {s : State} (n : ℕ) → bit (s .directory .defined) n ≡ 1 → Lawful s
-    → Settled (each woken (queue s eventQueue) (withOn s (adding (s .on) n)))
-on-keeps {s} n d g =
+pub signal-walk : {s : State} (n : ℕ) → bit (s .directory .defined) n ≡ 1 → Lawful s → Walk eventQueue (queue s eventQueue) (withOn s (adding (s .on) n)) (queue s eventQueue)
+signal-walk {s} n d g =
     let o = adding (s .on) n in
-    let w = walked (queue s eventQueue) (withOn s o) (record {
+    record {
       shape = shape-on (s .clock) o (g .shape) (λ v. added-le (s .on) n (s .directory .defined) v d (g .shape .blank .on));
       rest = rest-on (s .clock) o (record { asleep = λ y c z. absurd (omega (arith, c, z)) }) (g .rest);
       left = λ y. omega arith;
-    }) in
-    settled (w .shape) (w .rest)
+    }
+
+pub on-keeps : {s : State} (n : ℕ) → bit (s .directory .defined) n ≡ 1 → Lawful s
+    → Settled (each woken (queue s eventQueue) (withOn s (adding (s .on) n)))
+on-keeps {s} n d g = let w = walked (queue s eventQueue) (withOn s (adding (s .on) n)) (signal-walk n d g) in settled (w .shape) (w .rest)
 
 pub signal-keeps : {s : State} (c : Call) → Lawful s → bit (s .directory .defined) (c .number) ≡ 1 → Settled (signal s c .state)
 unfolding signal

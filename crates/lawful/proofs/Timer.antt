@@ -78,22 +78,21 @@ same-asleep : (s : State) (c : ℕ) {m : List ℕ} → Asleep s m → Asleep (wi
 unfolding enough
 same-asleep s c a = record { asleep = a .asleep }
 
+pub timer-walk : {s : State} → Lawful s → Walk timeQueue (queue s timeQueue) (withClock s (s .clock + 1)) []
+timer-walk {s} g =
+    record {
+      shape = shape-on (s .clock + 1) (s .on) (g .shape) (g .shape .blank .on);
+      rest = rest-on (s .clock + 1) (s .on) (same-asleep s (s .clock + 1) (g .rest .asleep)) (g .rest);
+      left = λ y. omega arith;
+    }
+
 pub timer-keeps : {s : State} (c : Call) → Lawful s → Settled (timer s c .state)
 unfolding timer
 timer-keeps {s} c g = go (eqb ((s .clock + 1) % s .directory .every) 0)
   where
-    t : State
-    t = withClock s (s .clock + 1)
-
-    shape : Shape (withClock s (s .clock + 1)) [] 0
-    shape = shape-on (s .clock + 1) (s .on) (g .shape) (g .shape .blank .on)
-
-    rest : Rest (withClock s (s .clock + 1)) []
-    rest = rest-on (s .clock + 1) (s .on) (same-asleep s (s .clock + 1) (g .rest .asleep)) (g .rest)
-
     go : (b : Bool) → Settled (if b then each timely (queue s timeQueue) (withClock s (s .clock + 1)) else withClock s (s .clock + 1))
-    go true = let w = ticked (queue s timeQueue) (withClock s (s .clock + 1)) (record { shape = shape; rest = rest; left = λ y. omega arith }) in settled (w .shape) (w .rest)
-    go false = settled shape rest
+    go true = let w = ticked (queue s timeQueue) (withClock s (s .clock + 1)) (timer-walk g) in settled (w .shape) (w .rest)
+    go false = settled (timer-walk g .shape) (timer-walk g .rest)
 
 -- ---- DISPATCH CHECK.
 module _ {s : State} (g : Lawful s) (n : s .running ≢ 0) where

@@ -3,3 +3,4 @@ pub mod Resting
 pub mod Accepts
 pub mod Tables
 pub mod Taken
+pub mod InTurn
