@@ -1,11 +1,11 @@
--- Document 01, 'What each call does', last paragraph: "Table rules, exactly". Each rule is a test of its own under its words; `rules` is all of them.
--- A rule over one block is a test of the block, of its module's level and units and of the queue in which it stands.
+-- Document 01, 'What each call does', last paragraph: "Table rules, exactly". Each rule is a test of its own under its words; `rulesHold` is all of them.
+-- A rule over one block is a test of the block, with what it needs of its module.
 use mathlib.Core.Bool.{Bool, true, not, _&&_, _||_, Bool·beq}
 use mathlib.Core.List.{List, [], _∷_, _++_}
 use Prim.Native.Nat.{ℕ, zero, suc, _+_, _^_}
 use lib.Dec.{eqb, leb, ltb}
 use Rattle.threads.specs.declared.Threads.{Threads}
-use Rattle.threads.specs.Threads.{hd, counts, threaded, queuesOf}
+use Rattle.threads.specs.Threads.{BLOCKS, hd, counts, threaded, queuesOf}
 use Rattle.words.specs.Words.{if_then_else_, _implies_, isEmpty, below, oneTo, allOf, howMany, sameList, upBy, standing, allTrue, has, size}
 use Rattle.words.specs.Rows.{firstOf}
 use Rattle.image.specs.declared.Directory.{Directory}
@@ -13,8 +13,8 @@ use Rattle.image.specs.Directory.{directoryRows}
 use Rattle.tables.specs.declared.Task.{Task}
 use Rattle.tables.specs.declared.Request.{Request}
 use Rattle.tables.specs.declared.Tables.{Tables}
-use Rattle.tables.specs.Blocks.{taskBlocks, requestBlocks, Free, Running, Ready, InCore, InEvent, InTime, InLink, InCheck, Ending, Queued, OnChannel, HoldsRun, GaveBack, NotGranted}
-use Rattle.tables.specs.State.{State, eventQueue, readyQueue, coreQueue, timeQueue, channelQueue, node, taskAt, requestAt, poolAt, queue, levelOf, unitsOf, read}
+use Rattle.tables.specs.Blocks.{taskBlocks, requestBlocks, Free, Running, Ready, InCore, InEvent, InTime, InLink, InCheck, Ending, Queued, OnChannel, Done, HoldsRun, GaveBack, NotGranted}
+use Rattle.tables.specs.State.{State, eventQueue, readyQueue, coreQueue, timeQueue, channelQueue, noQueue, node, taskAt, requestAt, poolAt, queue, levelOf, unitsOf, read}
 use Rattle.meaning.specs.Conditions.{undefinedIn, enough}
 use Rattle.pools.specs.Pools.{run}
 use Rattle.meaning.specs.Ready.{fits, needsCore}
@@ -46,7 +46,7 @@ taskInRange modules units t =
 
 abbrev pub requestInRange : Request → Bool
 requestInRange q =
-    leb (q .place) 3 && leb (q .owner) taskBlocks
+    leb (q .place) Done && leb (q .owner) taskBlocks
     && (not (eqb (q .place) Free) implies (leb (q .device) 249 && (eqb (q .command) 13 || eqb (q .command) 14) && leb 1 (q .bytes)))
 
 unfoldable pub inRange : State → Bool
@@ -70,21 +70,22 @@ everywhere p (l ∷ ls) = allOf p l && everywhere p ls
 unfoldable pub pointersSound : Threads → Bool
 pointersSound t =
     let ls = queuesOf t in
-    everywhere (λ y. leb 1 y && leb y (taskBlocks + requestBlocks)) ls
-    && allOf (λ y. leb (counts y ls) 1) (oneTo (taskBlocks + requestBlocks))
+    everywhere (λ y. leb 1 y && leb y BLOCKS) ls
+    && allOf (λ y. leb (counts y ls) 1) (oneTo BLOCKS)
     && (sameList (t .fwd) (threaded ls .fwd) && sameList (t .back) (threaded ls .back))
     && (sameList (t .first) (threaded ls .first) && sameList (t .last) (threaded ls .last))
 
 -- "A task block is in one of these places: free, running, a level's ready or core queue, the event queue, the time queue, or waiting in LINK, in CHECK
--- or as ending." The queue of a place, of a task of a level; 9 for none
+-- or as ending." The queue of a place, of a task of a level
 unfoldable pub queueFor : ℕ → ℕ → ℕ
 queueFor place level =
     if eqb place Ready then readyQueue level
     else if eqb place InCore then coreQueue level
     else if eqb place InEvent then eventQueue
     else if eqb place InTime then timeQueue
-    else 9
+    else noQueue
 
+-- a block is in the queue of its place; that it is in no other follows, since no block stands twice (`pointersSound`)
 unfoldable pub tasksInPlace : State → Bool
 tasksInPlace s =
     everyTask (λ k. let t = taskAt s k in
@@ -94,7 +95,7 @@ tasksInPlace s =
 unfoldable pub requestsInPlace : State → Bool
 requestsInPlace s =
     everyRequest (λ r. let q = requestAt s r in
-    eqb (standing (node r) (s .queues)) (if eqb (q .place) Queued then channelQueue else 9)
+    eqb (standing (node r) (s .queues)) (if eqb (q .place) Queued then channelQueue else noQueue)
     && Bool·beq (eqb (s .channel) r) (eqb (q .place) OnChannel))
 
 -- "The free blocks are sets." Of blocks 1 to 24, and of blocks 1 to 16

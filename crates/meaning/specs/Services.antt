@@ -3,7 +3,7 @@ use mathlib.Core.Bool.{not, _&&_}
 use Prim.Native.Nat.{ℕ, _+_, _%_}
 use lib.Dec.{eqb, leb, ltb}
 use Rattle.words.specs.Words.{if_then_else_, each, has, adding, dropping, least}
-use Rattle.tables.specs.Blocks.{Ready, InLink, InCheck, Ending, Queued, Done, request, newTask, awaitingRequest}
+use Rattle.tables.specs.Blocks.{taskBlocks, Ready, InLink, InCheck, Ending, Queued, Done, request, newTask, awaitingRequest}
 use Rattle.tables.specs.State.{State, readyQueue, eventQueue, timeQueue, withClock, withOn, withRunning, withChannel, withFreeTasks, withFreeRequests, withTask, withRequest, taskAt, requestAt, queue, levelOf, leading, leaving}
 use Rattle.calls.specs.declared.Call.{Call}
 use Rattle.meaning.specs.Conditions.{enough, holds, waiting}
@@ -24,9 +24,16 @@ _giving_ s r = record { state = s; result = r }
 unfoldable pub stopped : State → ℕ → State
 stopped s p = withRunning (placed s (s .running) p) 0
 
--- "A freed block is used again: always the lowest-numbered free one." A task of the module m, child of p or of none, in the block k.
+-- a task of the module m, child of p or of none, in the block k
 unfoldable pub created : State → ℕ → ℕ → ℕ → State
 created s k m p = withTask (withFreeTasks s (dropping (s .freeTasks) k)) k (newTask m p)
+
+-- "A freed block is used again: always the lowest-numbered free one."
+abbrev pub lowestTask : State → ℕ
+lowestTask s = least (s .freeTasks)
+
+abbrev pub lowestRequest : State → ℕ
+lowestRequest s = least (s .freeRequests)
 
 -- ---- Service calls.
 
@@ -37,7 +44,7 @@ freemain s c = givenBack s (s .running) giving 1
 -- "LINK makes a child and the caller waits for it."
 unfoldable pub link : State → Call → Effect
 link s c =
-    let k = least (s .freeTasks) in
+    let k = lowestTask s in
     madeReady (stopped (created s k (c .number) (s .running)) InLink) k giving k
 
 -- "END: a caller with requests queued or on the channel waits as ending and keeps its core; otherwise it finishes."
@@ -47,7 +54,7 @@ end s c = ended (withRunning s 0) (s .running) giving 1
 -- SCHEDULE: "A condition that holds at the call doesn't wait".
 unfoldable pub schedule : State → Call → Effect
 schedule s c =
-    let k = least (s .freeTasks) in
+    let k = lowestTask s in
     let made = created s k (c .number) 0 in
     (if holds s c then madeReady made k else waiting made k c) giving k
 
@@ -84,7 +91,7 @@ asked s r c =
     withRequest (withFreeRequests s (dropping (s .freeRequests) r)) r (request Queued (s .running) (c .number) (c .code) (c .amount))
 
 unfoldable pub readOrWrite : State → Call → Effect
-readOrWrite s c = let r = least (s .freeRequests) in channelFilled (queued (asked s r c) r) giving r
+readOrWrite s c = let r = lowestRequest s in channelFilled (queued (asked s r c) r) giving r
 
 -- "CHECK: done request, block freed, go on; pending one, wait for it."
 unfoldable pub awaitsRequest : State → ℕ → State
@@ -123,12 +130,12 @@ ioDone s c =
 
 -- "Program check aborts the running task." The chain has at most 24 tasks.
 unfoldable pub programCheck : State → Call → Effect
-programCheck s c = aborted 24 (s .running) (withRunning s 0) giving 1
+programCheck s c = aborted taskBlocks (s .running) (withRunning s 0) giving 1
 
 -- operator start: a task with no parent; "Kind 0 holds at once (LINK and start always use it)"
 unfoldable pub operatorStart : State → Call → Effect
 operatorStart s c =
-    let k = least (s .freeTasks) in
+    let k = lowestTask s in
     madeReady (created s k (c .number) 0) k giving k
 
 -- ---- All calls, by their codes.

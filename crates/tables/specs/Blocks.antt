@@ -78,7 +78,7 @@ noRequest = request Free 0 0 0 0
 
 -- ---- A task block in a new place: "any field with no meaning in the block's present place, is zero".
 
--- a task of the module m, child of q or of none, in no place yet
+-- a task of the module m, child of q or of none, in no place yet: whoever makes one moves it on at once
 abbrev pub newTask : ℕ → ℕ → Task
 newTask m q = task Free m q NotGranted 0 0 0 0 0
 

@@ -2,7 +2,7 @@
 use mathlib.Core.List.{List, [], _∷_, _++_}
 use Prim.Native.Nat.{ℕ, _+_, _-_, _^_}
 use lib.ListN.{set, getD, replicate}
-use Rattle.threads.specs.Threads.{queuesOf, threaded, without}
+use Rattle.threads.specs.Threads.{QUEUES, queuesOf, threaded, without}
 use Rattle.image.specs.declared.Entry.{Entry}
 use Rattle.image.specs.declared.Directory.{Directory}
 use Rattle.image.specs.Directory.{noEntry, noDirectory}
@@ -40,6 +40,10 @@ timeQueue = 7
 
 abbrev pub channelQueue : ℕ
 channelQueue = 8
+
+-- no queue
+abbrev pub noQueue : ℕ
+noQueue = QUEUES
 
 -- the number of request block r in a queue (task block k is the number k), and the request block of such a number
 abbrev pub node : ℕ → ℕ
@@ -154,10 +158,10 @@ allUpTo n = 2 ^ (n + 1) - 2
 unfoldable pub loaded : Directory → State
 loaded d =
     state d 0 0 0 0 (allUpTo taskBlocks) (allUpTo requestBlocks) (replicate 4 0) (replicate (taskBlocks + 1) noTask)
-    (replicate (requestBlocks + 1) noRequest) (replicate 9 [])
+    (replicate (requestBlocks + 1) noRequest) (replicate QUEUES [])
 
 -- "all-zero tables": nothing in them, and no block free
 unfoldable pub allZero : State
 allZero =
     state noDirectory 0 0 0 0 0 0 (replicate 4 0) (replicate (taskBlocks + 1) noTask) (replicate (requestBlocks + 1) noRequest)
-    (replicate 9 [])
+    (replicate QUEUES [])
