@@ -89,8 +89,9 @@ static void time_both(unsigned long calls)
         ratio[i] = library[i] / plain[i];
     }
     double middle = median(ratio);
-    printf("library: %.1f ns a call, plain C: %.1f ns a call (medians of %d rounds)\n",
-           median(library) * 1e9 / (double)calls, median(plain) * 1e9 / (double)calls, ROUNDS);
+    double of_library = median(library) * 1e9 / (double)calls;
+    double of_plain = median(plain) * 1e9 / (double)calls;
+    printf("library: %.1f ns a call, plain C: %.1f ns a call (medians of %d rounds)\n", of_library, of_plain, ROUNDS);
     printf("the ratio of a round: %.2f to %.2f\n", ratio[0], ratio[ROUNDS - 1]);
     printf("image check: %lu calls each, %.2f times the plain C loop\n",
            ROUNDS * calls, middle);

@@ -6,6 +6,8 @@
 
 #include "rules_switch.h"
 
+const char *rules_broken(const struct executive *executive);
+
 int rules_are_checked = 0;
 
 const char *rules_broken(const struct executive *executive)

@@ -120,6 +120,7 @@ static void stored_checks(void)
 static void add_fault(uint8_t *bytes, int refusal)
 {
     uint8_t *entry = bytes + AT_ENTRIES;
+    unsigned at;
     switch (refusal) {
     case 3:
         bytes[0] = random_other(1);
@@ -143,7 +144,8 @@ static void add_fault(uint8_t *bytes, int refusal)
         }
         break;
     default:
-        bytes[random_between(AT_LAST_ZERO, AT_CHECK - 1)] = random_other(0);
+        at = random_between(AT_LAST_ZERO, AT_CHECK - 1);
+        bytes[at] = random_other(0);
     }
 }
 

@@ -54,5 +54,7 @@ void make_good(uint8_t *bytes, unsigned modules, unsigned cycles)
 
 void make_any_good(uint8_t *bytes)
 {
-    make_good(bytes, random_between(1, MODULES), random_between(1, 255));
+    unsigned modules = random_between(1, MODULES);
+    unsigned cycles = random_between(1, 255);
+    make_good(bytes, modules, cycles);
 }

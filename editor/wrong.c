@@ -62,12 +62,13 @@ static int before(const uint8_t *bytes, size_t length)
     return image_refusal(bytes, length);
 }
 
-/* The image is changed, though the answer is right. */
+/* The image is changed, though the answer is right. The detour through a number
+   drops the 'const' without a warning. */
 static int writes(const uint8_t *bytes, size_t length)
 {
     int answer = image_refusal(bytes, length);
     if (length > 0) {
-        *(uint8_t *)bytes ^= 1;
+        *(uint8_t *)(uintptr_t)bytes ^= 1;
     }
     return answer;
 }

@@ -2,7 +2,9 @@
    tables that aren't there now; the call then does something else. */
 #include "moves.h"
 
-/* One of the numbers given. */
+/* One of the numbers given. C leaves open which argument of a call is worked
+   out first, so where several are drawn each is drawn before the call, the last
+   one first. */
 static uint32_t one_of(struct random *random, uint32_t first, uint32_t second,
                        uint32_t third)
 {
@@ -14,9 +16,10 @@ static uint32_t one_of(struct random *random, uint32_t first, uint32_t second,
 static void unknown_code(struct random *random, struct call *call)
 {
     do {
-        call->code = (uint8_t)one_of(random, random_below(random, CODES),
-                                     CODES + random_below(random, 2),
-                                     random_below(random, 256));
+        uint32_t third = random_below(random, 256);
+        uint32_t second = CODES + random_below(random, 2);
+        uint32_t first = random_below(random, CODES);
+        call->code = (uint8_t)one_of(random, first, second, third);
     } while (call->code < CODES && code_table[call->code].name != NULL);
 }
 
@@ -53,8 +56,9 @@ static void bad_transfer(struct random *random, struct call *call)
     call->code = random_one_in(random, 2) ? READ : WRITE;
     call->number = (uint8_t)one_of(random, DEVICES - 1, DEVICES,
                                    DEVICES + random_below(random, 6));
-    call->amount = one_of(random, BYTE_COUNT_MOST + random_below(random, 2), 0,
-                          random_one_in(random, 2) ? UINT32_MAX : 1);
+    uint32_t third = random_one_in(random, 2) ? UINT32_MAX : 1;
+    uint32_t first = BYTE_COUNT_MOST + random_below(random, 2);
+    call->amount = one_of(random, first, 0, third);
 }
 
 /* 23: "SIGNAL value not 0 or 1" */

@@ -320,5 +320,9 @@ int main(void)
         }
     }
     write_image(&session);
+    if (fflush(stdout) != 0 || ferror(stdout)) {
+        fprintf(stderr, "compose: the bytes cannot be written\n");
+        return 2;
+    }
     return 0;
 }

@@ -162,5 +162,9 @@ int main(int count, char **arguments)
     if (answer.refusal == 0) {
         take_calls(&executive, &wishes);
     }
+    if (ferror(stdout)) {
+        fprintf(stderr, "desk: a line cannot be written\n");
+        return 2;
+    }
     return 0;
 }

@@ -271,12 +271,18 @@ static void make_short_call(struct random *random)
     printf("\n");
 }
 
+/* Digits alone, so that no slip of the pen is taken for 0. */
+static int is_number(const char *text)
+{
+    return *text != '\0' && text[strspn(text, "0123456789")] == '\0';
+}
+
 /* generate PROFILE SEED CALLS */
 int main(int count, char **arguments)
 {
     struct session session;
     memset(&session, 0, sizeof session);
-    if (count == 4) {
+    if (count == 4 && is_number(arguments[2]) && is_number(arguments[3])) {
         session.profile = profile_find(arguments[1]);
     }
     if (session.profile == NULL) {
@@ -288,6 +294,10 @@ int main(int count, char **arguments)
     if (make_image(&session)) {
         make_calls(&session, strtoul(arguments[3], NULL, 10));
         make_short_call(&session.random);
+    }
+    if (fflush(stdout) != 0 || ferror(stdout)) {
+        fprintf(stderr, "generate: the session cannot be written\n");
+        return 2;
     }
     return 0;
 }

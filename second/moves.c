@@ -156,8 +156,9 @@ static int any_call(struct random *random, struct call *call)
     call->value = (uint8_t)random_below(random, 4);
     call->amount = random_below(random, random_one_in(random, 4)
                                             ? UINT32_MAX : 20);
-    call->set = random_next(random) & random_next(random)
-        & random_next(random);
+    call->set = random_next(random);
+    call->set &= random_next(random);
+    call->set &= random_next(random);
     return 1;
 }
 
