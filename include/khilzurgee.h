@@ -18,8 +18,8 @@
    A station links target/staticlib/libstation.a, which 'rt staticlib station'
    writes; it has all three functions. A program that needs the image check
    alone, as the editor, links the small target/staticlib/libimage.a, which
-   'rt staticlib image' writes. Both are for x86-64 Linux and need nothing but
-   the C library. */
+   'rt staticlib image' writes. Link one of the two and not both: each has the
+   image check. Both are for x86-64 Linux and need nothing but the C library. */
 #ifndef KHILZURGEE_H
 #define KHILZURGEE_H
 

@@ -1,3 +1,4 @@
 pub mod Entries
+pub mod Cases
 pub mod Unique
 pub mod Written

@@ -24,9 +24,18 @@ callOf b =
       events = number b 8 8;
     }
 
+-- the number by which what arrived is refused, 0 for a call
+abbrev pub cutBy : Arrival → ℕ
+cutBy (Came c) = 0
+cutBy (Cut n) = n
+
+-- what arrived, by this number and with this call
+abbrev pub arrivalOf : ℕ → Call → Arrival
+arrivalOf refusal c = if eqb refusal 0 then Came c else Cut refusal
+
 -- "A call arrives as exactly 16 bytes"; "10 | not 16 bytes"
 unfoldable pub arrival : List ℕ → Arrival
-arrival b = if eqb (length b) 16 then Came (callOf b) else Cut 10
+arrival b = arrivalOf (if eqb (length b) 16 then 0 else 10) (callOf b)
 
 -- "Service calls need a running task: 1 FREEMAIN, 5 LINK, 6 END, 7 SCHEDULE, 8 WAIT, 9 SIGNAL, 10 TEST EVENT, 12 DISPATCH CHECK, 13 READ,
 -- 14 WRITE, 15 CHECK."

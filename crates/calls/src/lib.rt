@@ -6,7 +6,7 @@ pub mod codes;
 use image::Outcome;
 ghost use mathlib.Core.List.{[], _∷_};
 ghost use mathlib.Core.Path.{_≡_};
-ghost use Rattle.calls.specs.Calls.{arrival, numbers};
+ghost use Rattle.calls.specs.Calls.{arrivalOf, arrival, numbers};
 
 // A call: which it is, and its fields, used or not.
 pub struct Call {
@@ -51,7 +51,7 @@ pub fn read(bytes: &[u8]) -> Arrival
 
 // The 16 bytes of a call: reading them gives the call again.
 pub fn write(call: Call) -> [u8; 16]
-    ensures { λ r. ⌜ arrival r ≡ Arrival.Came call ⌝ }
+    ensures { λ r. ⌜ arrival r ≡ arrivalOf 0 call ⌝ }
 {
     let amount = call.amount as u64;
     let events = call.events;

@@ -3,3 +3,4 @@ pub mod Levels
 pub mod Shaped
 pub mod Asked
 pub mod Transferred
+pub mod Unique

@@ -17,6 +17,7 @@ use Rattle.image.specs.declared.Outcome.{Outcome}
 use Rattle.image.specs.declared.Outcome.the-variants.{Refused, Accepted}
 use Rattle.image.specs.Answer.{refusalOf, resultOf}
 use Rattle.image.specs.Load.{loadOf}
+use Rattle.image.proofs.Cases.{refusal-of, refused-by}
 use Rattle.tables.specs.declared.Tables.{Tables}
 use Rattle.tables.specs.State.{read, tabled, allZero}
 use Rattle.calls.specs.Calls.{callOf}
@@ -54,7 +55,7 @@ unfolding taken accepted refused
 was-refused t bytes n e =
     ⊎-elim
     (λ z. absurd (omega (arith, ap taken (sym (ap (λ (r : Step). r .outcome) (ends-accepted t bytes (z .1))) ∙ e))))
-    (λ z. (z .1, ap refusalOf (sym (ap (λ (r : Step). r .outcome) (ends-refused t bytes (z .1))) ∙ e)))
+    (λ z. (z .1, sym (refusal-of (number t bytes) 0) ∙ ap refusalOf (sym (ap (λ (r : Step). r .outcome) (ends-refused t bytes (z .1))) ∙ e)))
     (tested (number t bytes) 0)
 
 pub was-accepted : (t : Tables) (bytes : List ℕ) (r : ℕ) → stepOf t bytes .outcome ≡ Accepted r → (number t bytes ≡ 0) × (effect (read t) (callOf bytes) .result ≡ r)
@@ -62,7 +63,7 @@ unfolding taken accepted refused
 was-accepted t bytes r e =
     ⊎-elim
     (λ z. (z .1, ap resultOf (sym (ap (λ (r : Step). r .outcome) (ends-accepted t bytes (z .1))) ∙ e)))
-    (λ z. absurd (omega (arith, ap taken (sym (ap (λ (r : Step). r .outcome) (ends-refused t bytes (z .1))) ∙ e))))
+    (λ z. absurd (omega (arith, ap taken (sym (ap (λ (r : Step). r .outcome) (ends-refused t bytes (z .1)) ∙ refused-by (number t bytes) (z .1)) ∙ e))))
     (tested (number t bytes) 0)
 
 -- ---- "A refused call changes no table"

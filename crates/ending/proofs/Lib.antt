@@ -2,3 +2,4 @@ pub mod Some
 pub mod Shown
 pub mod Finishes
 pub mod Aborts
+pub mod Unique

@@ -19,6 +19,8 @@ pub fn unlink(t: Tables, k: u8) -> Tables
 }
 
 // The task k, and then its parent and so on upward, `left` at most in all: each loses its link and finishes, or waits as ending.
+// "with the remaining chain length as falling number, at most 24": `left` falls by one with each parent. The 24 is given where the abort begins, in
+// `tasking::stopping::program_check`; here any number will do that the chain of parents does not outlast.
 pub fn abort(t: Tables, k: u8, left: u8) -> Tables
     requires { ⌜ Sound (t .threads) × Aborting left k (read t) ⌝ }
     ensures { λ r. ⌜ Shows r (aborted left k (read t)) ⌝ }

@@ -3,3 +3,4 @@ pub mod ByPlace
 pub mod Slots
 pub mod Parts
 pub mod Gathered
+pub mod Unique

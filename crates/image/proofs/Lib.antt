@@ -1,4 +1,5 @@
 pub mod Weights
+pub mod Cases
 pub mod Loads
 pub mod Writes
 pub mod Table

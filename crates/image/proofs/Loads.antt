@@ -18,6 +18,7 @@ use Rattle.image.specs.Block.{checkOf, storedCheck, fillersZero}
 use Rattle.image.specs.Directory.{directoryRows}
 use Rattle.image.specs.Answer.{refusalOf}
 use Rattle.image.specs.Load.{directoryOf, blockRows, loadRows, refusedLoad, loadOf}
+use Rattle.image.proofs.Cases.{refusal-of}
 
 -- the rows from the fourth on, and the last of all
 abbrev lastRow : List ℕ → List Row
@@ -109,5 +110,5 @@ pub check-is-load : (b : List ℕ) → refusalOf (loadOf b .outcome) ≡ firstOf
 unfolding refusedLoad
 check-is-load b =
     ⊎-elim (λ e. ap (λ (l : Loaded). refusalOf (l .outcome)) (load-accepted b e) ∙ sym e)
-    (λ h. ap (λ (l : Loaded). refusalOf (l .outcome)) (load-refused b (λ e. omega arith)))
+    (λ h. ap (λ (l : Loaded). refusalOf (l .outcome)) (load-refused b (λ e. omega arith)) ∙ refusal-of (firstOf (loadRows b)) 0)
     (eq-zero-or-pos (firstOf (loadRows b)))

@@ -7,10 +7,10 @@ use lib.Dec.{eqb}
 use Rattle.words.specs.Words.{if_then_else_, below}
 use Rattle.words.specs.Bytes.{number}
 use Rattle.words.specs.Rows.{Row, _when_, firstOf}
-use Rattle.image.specs.declared.Outcome.the-variants.{Refused, Accepted}
 use Rattle.image.specs.declared.Entry.{Entry}
 use Rattle.image.specs.declared.Directory.{Directory}
 use Rattle.image.specs.declared.Loaded.{Loaded}
+use Rattle.image.specs.Answer.{outcomeOf}
 use Rattle.image.specs.Block.{checkOf, storedCheck, fillersZero}
 use Rattle.image.specs.Directory.{noDirectory, directoryRows}
 
@@ -36,11 +36,11 @@ loadRows b = blockRows b ++ (directoryRows (directoryOf b) ++ 7 when (not (fille
 
 -- "The lowest that applies is given, with all-zero tables"
 unfoldable pub refusedLoad : ℕ → Loaded
-refusedLoad n = record { outcome = Refused n; directory = noDirectory }
+refusedLoad n = record { outcome = outcomeOf n 0; directory = noDirectory }
 
 -- the load's line says "refusal, M or 0"
 unfoldable pub loadOf : List ℕ → Loaded
 loadOf b =
     let n = firstOf (loadRows b) in
-    if eqb n 0 then record { outcome = Accepted (directoryOf b .modules); directory = directoryOf b }
+    if eqb n 0 then record { outcome = outcomeOf 0 (directoryOf b .modules); directory = directoryOf b }
     else refusedLoad n

@@ -8,9 +8,9 @@ use Rattle.words.specs.Words.{if_then_else_, below}
 use Rattle.words.specs.Bytes.{digit}
 use Rattle.words.specs.Rows.{Row, _when_, firstOf}
 use Rattle.image.specs.declared.Outcome.{Outcome}
-use Rattle.image.specs.declared.Outcome.the-variants.{Refused, Accepted}
 use Rattle.image.specs.declared.Entry.{Entry}
 use Rattle.image.specs.declared.Directory.{Directory}
+use Rattle.image.specs.Answer.{outcomeOf}
 use Rattle.image.specs.Block.{checkOf}
 use Rattle.image.specs.Directory.{entryAt, directoryRows}
 
@@ -54,5 +54,5 @@ pub record Written : Type 0 where
 unfoldable pub writeOf : Directory → List ℕ → Written
 writeOf d buffer =
     let n = firstOf (writeRows d buffer) in
-    if eqb n 0 then record { outcome = Accepted 1; buffer = imageOf d }
-    else record { outcome = Refused n; buffer = buffer }
+    if eqb n 0 then record { outcome = outcomeOf 0 1; buffer = imageOf d }
+    else record { outcome = outcomeOf n 0; buffer = buffer }

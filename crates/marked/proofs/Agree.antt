@@ -1,7 +1,8 @@
 -- The definitions give what document 01 prints: its session in full, from the bytes of the image and of the calls, and every line either side of the
 -- line. By computation: the checker runs the definitions.
+use mathlib.Core.Bool.{true}
 use mathlib.Core.Path.{_≡_, refl, sym, ap₂, _∙_}
-use mathlib.Core.List.{List, _∷_, _++_}
+use mathlib.Core.List.{List, _∷_, _++_, map}
 use Prim.Native.Nat.{ℕ}
 use lib.Count.{onesIn, trailingZeros}
 use Rattle.threads.specs.Threads.{without, walk, queuesOf, threaded, row, tab, flat, after, before, counts, count}
@@ -78,6 +79,11 @@ both {a} {b} e f =
           ∙ ap₂ (λ (l m : List (List ℕ)). l ++ m) (e .same) (f .same)
           ∙ sym (map-append (λ (x : Line). x .said) a b);
     }
+
+-- the marks P1 to P12 all stand in the list
+pub all-marked : allOf (λ p. p among map (λ (x : Line). x .mark) marked) (oneTo 12) ≡ true
+unfolding allOf oneTo _among_ checkLines imageLines coreLines eventLines intervalLines timeLines refusalLines fullLines marked
+all-marked = refl
 
 pub either-side : Agrees marked
 unfolding marked

@@ -4,8 +4,7 @@ use Prim.Native.Nat.{ℕ}
 use lib.Dec.{eqb}
 use Rattle.words.specs.Words.{if_then_else_}
 use Rattle.words.specs.Rows.{firstOf}
-use Rattle.image.specs.declared.Outcome.the-variants.{Refused, Accepted}
-use Rattle.image.specs.Answer.{refusalOf}
+use Rattle.image.specs.Answer.{refusalOf, outcomeOf}
 use Rattle.image.specs.Load.{loadOf}
 use Rattle.tables.specs.declared.Tables.{Tables}
 use Rattle.tables.specs.State.{read, tabled, loaded, allZero}
@@ -15,15 +14,15 @@ use Rattle.meaning.specs.Ready.{dispatched}
 use Rattle.meaning.specs.Services.{effect}
 use Rattle.meaning.specs.Refusals.{refusals}
 
--- "A refused call .. leaves every table as it found it".
+-- "A refused call has result 0, leaves every table as it found it"
 unfoldable pub refused : Tables → ℕ → Step
-refused t n = record { tables = t; outcome = Refused n }
+refused t n = record { tables = t; outcome = outcomeOf n 0 }
 
 -- "Every accepted call ends so: if no task runs, the first of the best non-empty level is dispatched."
 unfoldable pub accepted : Tables → List ℕ → Step
 accepted t bytes =
     let e = effect (read t) (callOf bytes) in
-    record { tables = tabled (dispatched (e .state)); outcome = Accepted (e .result) }
+    record { tables = tabled (dispatched (e .state)); outcome = outcomeOf 0 (e .result) }
 
 -- "The first that applies in the table's order is given."
 unfoldable pub stepOf : Tables → List ℕ → Step

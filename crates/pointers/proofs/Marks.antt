@@ -23,7 +23,7 @@ use Rattle.pointers.proofs.Found.{Lengths, unmarked}
 use Rattle.pointers.proofs.Goes.{counts-at, counts-take, flat-drop, flat-short}
 use Rattle.pointers.proofs.Decided.{nine-queues, decided}
 use Rattle.pointers.proofs.Passes.{passes, end-all, end-one, one-block}
-use Rattle.pointers.specs.Walked.{restClear, Walks}
+use Rattle.pointers.specs.Walked.{restClear, noMarks, marksTold, Walks}
 
 pub record Marks (t : Threads) (m : List ℕ) : Type 0 where
   pub inside : (q y : ℕ) → q < 9 → 1 ≤ count y (queueIn (queuesOf t) q) → getD m y 0 ≡ q
@@ -196,31 +196,52 @@ marks-standing {t} {m} s k y h =
 
 pub record Walking (t : Threads) (m : List ℕ) (q p y n : ℕ) : Type 0 where
   pub low : q ≤ 8
+  pub long : length m ≡ 41
   pub sizes : Lengths t
   pub same : passes t n q p y m ≡ pointersSound t
   pub marks : ends t n q y m ≡ ends t 50 0 (getD (t .first) 0 0) (replicate 41 9)
 
 pub walking-start : (t : Threads) → Lengths t → Walking t (replicate 41 9) 0 0 (getD (t .first) 0 0) 50
-walking-start t s = record { low = omega arith; sizes = s; same = decided t s; marks = refl }
+walking-start t s = record { low = omega arith; long = refl; sizes = s; same = decided t s; marks = refl }
 
 module _ {t : Threads} {m : List ℕ} {q p y n : ℕ} (w : Walking t m q p y n) where
-  pub walking-not : passes t n q p y m ≡ false → Walks t false m
-  walking-not f = let e = sym f ∙ w .same in record { right = e; sound = λ h. absurd (true≢false (sym h ∙ sym e)); stands = λ h. absurd (true≢false (sym h ∙ sym e)) }
-
-  pub walking-end : {ok : Bool} → n ≢ 0 → y ≡ 0 → getD (t .last) q 0 ≡ p → q ≡ 8 → ok ≡ restClear t m → Walks t ok m
-  walking-end o e l k f =
+  -- the walk ends at pointers that are not sound, or at the end of the last queue
+  walks-not : false ≡ pointersSound t → Walks t false noMarks
+  walks-not e =
       record {
-        right = f ∙ sym (end-all t q p y m n o e l k) ∙ w .same;
-        sound = sound-of t (nine-queues t (w .sizes .first));
-        stands = λ h.
-            let s = sound-of t (nine-queues t (w .sizes .first)) h in
-            marks-standing {m = m} s (rw (sym (ends-all t q y m n e k) ∙ w .marks) (all-marked t s));
+        right = e;
+        sound = λ h. absurd (true≢false (sym h ∙ sym e));
+        stands = λ h. absurd (true≢false (sym h ∙ sym e));
+        none = λ h. refl;
+        many = refl;
       }
+
+  walks-all : y ≡ 0 → q ≡ 8 → true ≡ pointersSound t → Walks t true m
+  walks-all e k h =
+      let s = sound-of t (nine-queues t (w .sizes .first)) (sym h) in
+      record {
+        right = h;
+        sound = λ z. s;
+        stands = λ z. marks-standing {m = m} s (rw (sym (ends-all t q y m n e k) ∙ w .marks) (all-marked t s));
+        none = λ z. absurd (true≢false (h ∙ z));
+        many = w .long;
+      }
+
+  walks-told : (ok : Bool) → y ≡ 0 → q ≡ 8 → ok ≡ pointersSound t → Walks t ok (marksTold ok m)
+  walks-told true e k h = walks-all e k h
+  walks-told false e k h = walks-not h
+
+  pub walking-not : passes t n q p y m ≡ false → Walks t false noMarks
+  walking-not f = walks-not (sym f ∙ w .same)
+
+  pub walking-end : {ok : Bool} → n ≢ 0 → y ≡ 0 → getD (t .last) q 0 ≡ p → q ≡ 8 → ok ≡ restClear t m → Walks t ok (marksTold ok m)
+  walking-end {ok} o e l k f = walks-told ok e k (f ∙ sym (end-all t q p y m n o e l k) ∙ w .same)
 
   pub walking-queue : n ≢ 0 → y ≡ 0 → getD (t .last) q 0 ≡ p → q ≢ 8 → Walking t m (q + 1) 0 (getD (t .first) (q + 1) 0) (n - 1)
   walking-queue o e l k =
       record {
         low = omega (arith, w .low);
+        long = w .long;
         sizes = w .sizes;
         same = sym (end-one t q p y m n o e l k) ∙ w .same;
         marks = sym (ends-one t q y m n o e k) ∙ w .marks;
@@ -230,6 +251,7 @@ module _ {t : Threads} {m : List ℕ} {q p y n : ℕ} (w : Walking t m q p y n) 
   walking-block o e b k l =
       record {
         low = w .low;
+        long = length-set m y q ∙ w .long;
         sizes = w .sizes;
         same = sym (one-block t q p y m n o e b k l) ∙ w .same;
         marks = sym (ends-block t q y m n o e) ∙ w .marks;

@@ -1,13 +1,13 @@
 -- What the walk along the pointers tells: whether they are sound, and the queue in which each block stands. A block of no queue has the mark 9.
-use mathlib.Core.Bool.{Bool, true, _&&_}
+use mathlib.Core.Bool.{Bool, true, false, _&&_}
 use mathlib.Core.Path.{_≡_}
 use mathlib.Core.List.{List}
 use Prim.Native.Nat.{ℕ, _≤_}
-use lib.ListN.{getD}
+use lib.ListN.{length, getD, replicate}
 use lib.Dec.{eqb}
 use Rattle.threads.specs.declared.Threads.{Threads}
 use Rattle.threads.specs.Threads.{queuesOf, Sound}
-use Rattle.words.specs.Words.{_implies_, oneTo, allOf, standing}
+use Rattle.words.specs.Words.{if_then_else_, _implies_, oneTo, allOf, standing}
 use Rattle.meaning.specs.Rules.{pointersSound}
 
 -- a block that is marked with no queue has no pointers
@@ -21,8 +21,18 @@ clearAt t m y = clearBy (getD m y 0) (getD (t .fwd) y 0) (getD (t .back) y 0)
 unfoldable pub restClear : Threads → List ℕ → Bool
 restClear t m = clearAt t m 0 && allOf (clearAt t m) (oneTo 40)
 
--- `ok` says whether the pointers are sound; where they are, the marks say where each block stands
+-- no block is marked
+abbrev pub noMarks : List ℕ
+noMarks = replicate 41 9
+
+-- the marks of a walk are told where the pointers are sound
+abbrev pub marksTold : Bool → List ℕ → List ℕ
+marksTold sound marks = if sound then marks else noMarks
+
+-- `ok` says whether the pointers are sound. Where they are, the marks say where each block stands; where they are not, no block is marked.
 pub record Walks (t : Threads) (ok : Bool) (m : List ℕ) : Type 0 where
   pub right : ok ≡ pointersSound t
   pub sound : pointersSound t ≡ true → Sound t
   pub stands : pointersSound t ≡ true → (y : ℕ) → y ≤ 40 → getD m y 0 ≡ standing y (queuesOf t)
+  pub none : pointersSound t ≡ false → m ≡ noMarks
+  pub many : length m ≡ 41

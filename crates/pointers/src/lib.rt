@@ -3,7 +3,7 @@
 // It answers for "Task and request blocks carry a forward and a back pointer for the queue they are on", one of the table rules of document 01. It knows
 // pointers, and nothing of what a block holds.
 ghost use mathlib.Core.Path.{_≡_};
-ghost use Rattle.pointers.specs.Walked.{clearBy, restClear, Walks};
+ghost use Rattle.pointers.specs.Walked.{clearBy, restClear, marksTold, Walks};
 use threads::Threads;
 
 // A block that is marked with no queue has pointers of zero.
@@ -26,7 +26,7 @@ fn rest_clear(t: Threads, marks: [u8; 41]) -> bool
     right
 }
 
-// Whether the pointers are sound; and, where they are, the queue of each block, 9 for none.
+// Whether the pointers are sound; and the queue of each block, 9 for none. Where they are not sound, no block stands in a queue.
 pub struct Standing {
     pub sound: bool,
     pub marks: [u8; 41],
@@ -34,11 +34,15 @@ pub struct Standing {
 
 // The two as one answer.
 fn told(sound: bool, marks: [u8; 41]) -> Standing
-    ensures { λ r. ⌜ r ≡ record { sound = sound; marks = marks } ⌝ }
+    ensures { λ r. ⌜ r ≡ record { sound = sound; marks = marksTold sound marks } ⌝ }
 {
+    let mut given: [u8; 41] = [9; 41];
+    if sound {
+        given = marks;
+    }
     Standing {
         sound: sound,
-        marks: marks,
+        marks: given,
     }
 }
 

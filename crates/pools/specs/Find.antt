@@ -6,6 +6,15 @@ use Rattle.pools.specs.declared.Found.{Found}
 use Rattle.pools.specs.declared.Found.the-variants.{At, Nowhere}
 use Rattle.pools.specs.Pools.{startOf}
 
+-- the start that was found; 64 for nowhere
+abbrev pub startIn : Found → ℕ
+startIn (At a) = a
+startIn Nowhere = 64
+
+-- what is found at this start
+abbrev pub foundAt : ℕ → Found
+foundAt start = if ltb start 64 then At start else Nowhere
+
 -- where n units are to be had; no units at the start 0, more than 64 nowhere
 unfoldable pub foundOf : ℕ → ℕ → Found
-foundOf granted n = if ltb (startOf granted n) 64 then At (startOf granted n) else Nowhere
+foundOf granted n = foundAt (startOf granted n)

@@ -2,8 +2,8 @@
 // each check holds is proved, and the run shows it.
 use pools::Found;
 ghost use mathlib.Core.Path.{_≡_};
-ghost use Rattle.pools.specs.Find.{foundOf};
-ghost use Rattle.pools_demo.specs.Start.{startIn, takenFrom};
+ghost use Rattle.pools.specs.Find.{startIn, foundOf};
+ghost use Rattle.pools_demo.specs.Start.{takenFrom};
 
 // The start that was found; 64 for nowhere.
 fn start(found: Found) -> u8

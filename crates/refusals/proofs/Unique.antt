@@ -1,14 +1,8 @@
--- No second answer: any two numbers that both meet what `first` promises are equal. `Post` is the promise itself, as the contract in the source
--- states it, of the arguments, the result, and the parameters at exit.
-use mathlib.Core.Path.{_≡_, sym, _∙_}
-use Prim.Native.Nat.{ℕ}
-use Rattle.tables.specs.declared.Tables.{Tables}
-use Rattle.calls.specs.declared.Call.{Call}
+-- No second answer: any two results that both meet what a public function of this crate promises are equal. `Post` is the promise itself, as the contract in
+-- the source states it. An equation leaves one answer.
+use mathlib.Core.Path.{sym, _∙_}
+use Rattle.words.proofs.Once.{OneAnswer}
 use Rattle.refusals.proofs.first.Reads as first
 
-module _ (t : Tables) (c : Call) where
-  abbrev Promised : ℕ → Type 0
-  Promised r = first.Post tt (t, (c, tt)) r (t, (c, tt))
-
-  pub first-only : (r s : ℕ) → Promised r → Promised s → r ≡ s
-  first-only r s p q = p ∙ sym q
+pub first-only : OneAnswer first.Post
+first-only κs given r s end end′ p q = p ∙ sym q

@@ -3,3 +3,4 @@ pub mod Granted
 pub mod Served
 pub mod GivenBack
 pub mod Shaped
+pub mod Unique

@@ -4,9 +4,8 @@ use Prim.Native.Nat.{ℕ, _-_, _≤_, _<_}
 use Rattle.threads.specs.Threads.{count, Member}
 use Rattle.words.specs.Words.{if_then_else_, isEmpty}
 use Rattle.pools.specs.declared.Found.{Found}
-use Rattle.pools.specs.declared.Found.the-variants.{Nowhere}
 use Rattle.pools.specs.Pools.{run}
-use Rattle.pools.specs.Find.{foundOf}
+use Rattle.pools.specs.Find.{foundAt, foundOf}
 use Rattle.pools.specs.Runs.{HeldRun}
 use Rattle.tables.specs.declared.Tables.{Tables}
 use Rattle.tables.specs.Blocks.{HoldsRun, GaveBack, withCore}
@@ -15,7 +14,7 @@ use Rattle.meaning.specs.Ready.{startFor}
 
 -- "when that queue isn't empty or no free run is long enough": nowhere
 unfoldable pub seatOf : State → ℕ → ℕ → Found
-seatOf s level n = if isEmpty (queue s (coreQueue level)) then foundOf (poolAt s level) n else Nowhere
+seatOf s level n = if isEmpty (queue s (coreQueue level)) then foundOf (poolAt s level) n else foundAt 64
 
 -- the task k can be given n units of the level's core from a on: they are its own number, and a is the lowest start at which they are free
 pub record Granting (s : State) (k level n a : ℕ) : Type 0 where

@@ -1,2 +1,3 @@
 pub mod Coded
 pub mod Whole
+pub mod Unique

@@ -9,7 +9,7 @@ use lib.ListN.{length}
 use borrow.Author.Tests.{eq-eqb, ne-eqb}
 use Rattle.threads.proofs.Lists.{tested}
 use Rattle.words.specs.Rows.{firstOf}
-use Rattle.image.specs.declared.Outcome.the-variants.{Accepted}
+use Rattle.image.specs.declared.Outcome.the-variants.{Refused, Accepted}
 use Rattle.tables.specs.declared.Tables.{Tables}
 use Rattle.tables.specs.State.{read}
 use Rattle.tables.specs.Held.{Held, Shows}
@@ -68,8 +68,8 @@ module _ {t : Tables} (bytes : List ℕ) (g : LawfulTables t) where
     unfolding refusals firstOf
     rows = let w = came-whole bytes c e in rw (tables-rules t g, eq-eqb _ _ (w .0), w .1)
 
-    pub turned-away : {n : ℕ} → n ≡ firstOf (callRows (read t) c) → n ≢ 0 → refused t n ≡ stepOf t bytes
-    unfolding stepOf
+    pub turned-away : {n : ℕ} → n ≡ firstOf (callRows (read t) c) → n ≢ 0 → record { tables = t; outcome = Refused n } ≡ stepOf t bytes
+    unfolding stepOf refused
     turned-away {n} f d = let h = rows ∙ sym f in rw (h, ne-eqb n 0 d)
 
     -- ---- A call that is accepted.

@@ -1,3 +1,4 @@
 pub mod Starts
 pub mod Ticks
 pub mod Yields
+pub mod Unique

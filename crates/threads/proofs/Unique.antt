@@ -1,35 +1,28 @@
--- Each contract leaves one answer: two results that meet it are equal, because pointers are determined by what they hold. Shown of the contracts as
--- they stand in the source.
-use mathlib.Core.Path.{_≡_}
-use mathlib.Core.List.{List}
-use Prim.Native.Nat.{ℕ}
-use Rattle.threads.specs.declared.Threads.{Threads}
+-- No second answer: any two results that both meet what a public function of this crate promises are equal. `Post` is the promise itself, as the contract in
+-- the source states it. Pointers are determined by the lists that they hold.
+use Rattle.words.proofs.Once.{OneAnswer}
 use Rattle.threads.proofs.Read.{determined}
 use Rattle.threads.proofs.empty.Reads as empty
 use Rattle.threads.proofs.append.Reads as append
 use Rattle.threads.proofs.push.Reads as push
-use Rattle.threads.proofs.insert_before.Reads as insert
+use Rattle.threads.proofs.insert_before.Reads as insert-before
 use Rattle.threads.proofs.remove.Reads as remove
 use Rattle.threads.proofs.enter.Reads as enter
 
-abbrev OneAnswer : (Threads → Type 0) → Type 0
-OneAnswer Promised = (r s : Threads) → Promised r → Promised s → r ≡ s
+pub empty-only : OneAnswer empty.Post
+empty-only κs given r s end end′ p q = determined p q
 
-pub empty-only : OneAnswer (λ r. empty.Post tt tt r tt)
-empty-only r s h k = determined h k
+pub append-only : OneAnswer append.Post
+append-only κs given r s end end′ p q = determined p q
 
-module _ (t : Threads) (q b x : ℕ) (keys : List ℕ) where
-  pub append-only : OneAnswer (λ r. append.Post tt (t, (q, (x, tt))) r (t, (q, (x, tt))))
-  append-only r s h k = determined h k
+pub push-only : OneAnswer push.Post
+push-only κs given r s end end′ p q = determined p q
 
-  pub push-only : OneAnswer (λ r. push.Post tt (t, (q, (x, tt))) r (t, (q, (x, tt))))
-  push-only r s h k = determined h k
+pub insert-before-only : OneAnswer insert-before.Post
+insert-before-only κs given r s end end′ p q = determined p q
 
-  pub insert-only : OneAnswer (λ r. insert.Post tt (t, (q, (b, (x, tt)))) r (t, (q, (b, (x, tt)))))
-  insert-only r s h k = determined h k
+pub remove-only : OneAnswer remove.Post
+remove-only κs given r s end end′ p q = determined p q
 
-  pub remove-only : OneAnswer (λ r. remove.Post tt (t, (q, (x, tt))) r (t, (q, (x, tt))))
-  remove-only r s h k = determined h k
-
-  pub enter-only : OneAnswer (λ r. enter.Post tt (t, (q, (x, (keys, tt)))) r (t, (q, (x, (keys, tt)))))
-  enter-only r s h k = determined h k
+pub enter-only : OneAnswer enter.Post
+enter-only κs given r s end end′ p q = determined p q

@@ -4,8 +4,7 @@ use borrow.Author.Needs.{needs}
 use borrow.Author.Tests.{eq-eqb}
 use Rattle.words.specs.Words.{lowest}
 use Rattle.pools.specs.Pools.{freeAt, startOf}
-use Rattle.pools.specs.Find.{foundOf}
-use Rattle.pools_demo.specs.Start.{startIn}
+use Rattle.pools.specs.Find.{startIn, foundOf}
 use Rattle.pools_demo.proofs.ends.Statement.{statement}
 use Rattle.pools_demo.proofs.ends.Tie as tie
 

@@ -24,7 +24,6 @@ first-requires : tie.Need-first-requires
 first-requires c κs = search needs
 
 returns-2 : tie.Need-returns-2
-unfolding refused
 returns-2 c = turned-away _ (c .before .before .before .before .before .before .before .pre) (sym (c .before .before .before .before .before .read .ensures) ∙ c .before .before .before .arrival .given .1) (c .before .first .ensures) (c .if1 .taken)
 
 effect-requires : tie.Need-effect-requires
