@@ -1,6 +1,6 @@
 -- I/O done, case by case: its owner waits on it in CHECK; its owner is ending and it was the last; otherwise. What each step of the code then asks.
 use mathlib.Core.Bool.{Bool, true, false, not, _&&_}
-use mathlib.Core.Path.{_≡_}
+use mathlib.Core.Path.{_≡_, _∙_}
 use mathlib.Core.Logic.{_≢_}
 use mathlib.Core.List.{[], _∷_}
 use native.Mathlib.Omega.{arith}
@@ -20,7 +20,7 @@ use Rattle.lawful.specs.Shape.{InHand}
 use Rattle.lawful.specs.Resting.{Lawful}
 use Rattle.lawful.proofs.Truth.{both}
 use Rattle.lawful.proofs.Made.{made-ready}
-use Rattle.lawful.proofs.IoDone.{owner, off, freed-hand, freed-rest, freed-finishes}
+use Rattle.lawful.proofs.IoDone.{owner, off, freed-hand, freed-rest, freed-finishes, done-first}
 use Rattle.scheduler.proofs.Shaped.{shape-held, hand-loose}
 use Rattle.ending.specs.Ending.{Finishing}
 use Rattle.ending.proofs.Shown.{then}
@@ -35,16 +35,13 @@ module _ (s : State) where
   was-last = eqb (taskAt s (owner s) .place) Ending && not (pending (off s) (owner s))
 
   pub for-checker : (c : Call) → waits ≡ true → ioDone s c .state ≡ channelFilled (madeReady (freedRequest (off s) (s .channel)) (owner s))
-  unfolding ioDone
-  for-checker c w = rw w
+  for-checker c w = done-first s c ∙ rw w
 
   pub for-ending : (c : Call) → waits ≡ false → was-last ≡ true → ioDone s c .state ≡ channelFilled (finished (freedRequest (off s) (s .channel)) (owner s))
-  unfolding ioDone
-  for-ending c w l = rw (w, l)
+  for-ending c w l = done-first s c ∙ rw (w, l)
 
   pub otherwise : (c : Call) → waits ≡ false → was-last ≡ false → ioDone s c .state ≡ channelFilled (off s)
-  unfolding ioDone
-  otherwise c w l = rw (w, l)
+  otherwise c w l = done-first s c ∙ rw (w, l)
 
 -- ---- What the steps ask.
 pub after-leaving : {s : State} {u : Tables} → Fit s → Shows u (off s) → Held u

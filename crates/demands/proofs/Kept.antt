@@ -4,13 +4,12 @@ use mathlib.Core.Path.{_≡_, refl, sym, ap, _∙_}
 use mathlib.Core.Bool.{true, false}
 use mathlib.Core.Logic.{_≢_, _⊎_, ⊎-elim}
 use mathlib.Core.List.{List, [], _∷_, _++_}
-use Prim.Native.Nat.{ℕ, _+_, _-_, _≤_, _<_}
-use native.Mathlib.Omega.{arith}
+use Prim.Native.Nat.{ℕ, _≤_, _<_}
 use lib.ListN.{length, getD}
 use Rattle.threads.specs.Threads.{count, lst, Sound}
 use Rattle.threads.proofs.Lists.{tested}
 use Rattle.threads.proofs.Read.{next-of, prev-of}
-use Rattle.words.specs.Words.{_among_, each}
+use Rattle.words.specs.Words.{if_then_else_, oneTo, _among_, howMany, each, has}
 use Rattle.words.specs.Rows.{firstOf}
 use Rattle.image.specs.declared.Outcome.the-variants.{Refused, Accepted}
 use Rattle.tables.specs.declared.Tables.{Tables}
@@ -20,17 +19,16 @@ use Rattle.calls.specs.Calls.{callOf, needsTask}
 use Rattle.pools.specs.Pools.{startOf}
 use Rattle.meaning.specs.Conditions.{enough}
 use Rattle.meaning.specs.Finish.{aborted}
-use Rattle.meaning.specs.Rules.{queueFor, upward, rulesHold}
+use Rattle.meaning.specs.Rules.{queueFor, holdsUnit, upward, rulesHold}
 use Rattle.meaning.specs.Refusals.{refusals}
 use Rattle.meaning.specs.Services.{effect}
 use Rattle.meaning.specs.Step.{refused, accepted, stepOf}
-use Rattle.lawful.specs.Shape.{one, bit, sum, holding, placeOf}
+use Rattle.lawful.specs.Shape.{one, bit, placeOf}
 use Rattle.lawful.specs.Resting.{Lawful}
 use Rattle.lawful.specs.Tables.{Reached}
 use Rattle.lawful.specs.Taken.{taken, takenBy}
-use Rattle.lawful.proofs.Bits.{bit-le}
 use Rattle.lawful.proofs.Chains.{chain-ends, each-once}
-use Rattle.lawful.proofs.Corollaries.{runs-apart}
+use Rattle.lawful.proofs.Corollaries.{units-make, runs-apart}
 use Rattle.lawful.proofs.Newly.{First, newly-first}
 use Rattle.lawful.proofs.Stays.{effect-puts, newly, undisturbed}
 use Rattle.lawful.proofs.Taken.{at-most, each-taken-once, check-takes, the-chain as chain, none-cut as cuts-none}
@@ -111,12 +109,11 @@ module _ (image : List ℕ) {t : Tables} (reached : Reached image t) where
       last p (x ∷ a) = last x a
 
   -- ---- "Core runs of a level are disjoint and with its free units make 64": no unit is in the runs of two tasks; and each of the 64 units is in one run, or free
-  pub runs-disjoint : (i j level u : ℕ) → i < j → j ≤ 24 → 1 ≤ level → level ≤ 3
-      → holding (t .directory) level u (taskAt s i) + holding (t .directory) level u (taskAt s j) ≤ 1
+  pub runs-disjoint : (i j level u : ℕ) → 1 ≤ i → i ≤ 24 → 1 ≤ j → j ≤ 24 → holdsUnit s level u i ≡ true → holdsUnit s level u j ≡ true → i ≡ j
   runs-disjoint = runs-apart (lawful .shape)
 
-  pub make-64 : (level u : ℕ) → 1 ≤ level → level ≤ 3 → u < 64 → sum (holding (t .directory) level u) (t .tasks) + (1 - bit (poolAt s level) u) ≡ 1
-  make-64 level u lo hi l = omega (arith, lawful .shape .core .units level u lo hi, bit-le (poolAt s level) u)
+  pub make-64 : (level u : ℕ) → 1 ≤ level → level ≤ 3 → u < 64 → howMany (holdsUnit s level u) (oneTo 24) ≡ (if has (poolAt s level) u then 1 else 0)
+  make-64 level u lo hi l = units-make (lawful .shape) level u lo hi
 
   -- ---- "LINK parents never form a ring, so an abort takes at most 24 tasks, each once": 24 steps above a task is none, and no task is met twice on the way
   pub no-ring : (k : ℕ) → 1 ≤ k → k ≤ 24 → upward s 24 k ≡ 0

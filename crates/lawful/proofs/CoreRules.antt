@@ -12,12 +12,13 @@ use borrow.Author.Tests.{eqb-true, eq-eqb}
 use Rattle.threads.proofs.Lists.{tested}
 use Rattle.words.specs.Words.{if_then_else_, oneTo, below, allOf, howMany, has}
 use Rattle.words.proofs.Lists.{all-at, all-shown}
+use Rattle.words.proofs.Masks.{has-run}
 use Rattle.words.proofs.Places.{under-or-from}
 use Rattle.image.specs.declared.Directory.{Directory}
 use Rattle.tables.specs.declared.Task.{Task}
 use Rattle.tables.specs.Blocks.{InLink, noTask}
 use Rattle.tables.specs.State.{State, taskAt, poolAt, levelOf, unitsOf}
-use Rattle.pools.specs.Pools.{run}
+use Rattle.pools.specs.Pools.{inRun, run}
 use Rattle.pools.proofs.Runs.{run-low}
 use Rattle.meaning.specs.Rules.{holdsUnit, coreHeld, linked}
 use Rattle.lawful.specs.Shape.{one, bit, sum, moduleOf, holding, Core, children}
@@ -29,12 +30,12 @@ use Rattle.lawful.proofs.Counted.{sum-many}
 
 -- ---- One task and one unit.
 
-holding-number : (s : State) (level u k : ℕ) → holding (s .directory) level u (taskAt s k) ≡ (if holdsUnit s level u k then 1 else 0)
+pub holding-number : (s : State) (level u k : ℕ) → holding (s .directory) level u (taskAt s k) ≡ (if holdsUnit s level u k then 1 else 0)
 unfolding holding holdsUnit
 holding-number s level u k = go (eqb (taskAt s k .core) 1) (eqb (levelOf s k) level)
   where
-    go : (a b : Bool) → cond (a && b) (bit (run (taskAt s k .start) (unitsOf s k)) u) 0 ≡ (if a && b && has (run (taskAt s k .start) (unitsOf s k)) u then 1 else 0)
-    go true true = bit-of (run (taskAt s k .start) (unitsOf s k)) u refl
+    go : (a b : Bool) → cond (a && b) (bit (run (taskAt s k .start) (unitsOf s k)) u) 0 ≡ (if a && b && inRun (taskAt s k .start) (unitsOf s k) u then 1 else 0)
+    go true true = bit-of (run (taskAt s k .start) (unitsOf s k)) u (has-run (taskAt s k .start) (unitsOf s k) u)
     go true false = refl
     go false b = refl
 
@@ -58,7 +59,7 @@ holding-high d level u t b f =
 
 -- ---- All of them.
 module _ (s : State) (long : length (s .tasks) ≡ 25) (no-task : taskAt s 0 ≡ noTask) where
-  units-held : (level u : ℕ) → sum (holding (s .directory) level u) (s .tasks) ≡ howMany (holdsUnit s level u) (oneTo 24)
+  pub units-held : (level u : ℕ) → sum (holding (s .directory) level u) (s .tasks) ≡ howMany (holdsUnit s level u) (oneTo 24)
   units-held level u =
       sum-many (holding (s .directory) level u) (s .tasks) noTask (holdsUnit s level u) 24 long
       (holding-none (s .directory) level u (taskAt s 0) (λ z. omega (arith, z, ap (λ (t : Task). t .core) no-task))) (λ k a b. holding-number s level u k)

@@ -142,13 +142,13 @@ module _ {s : State} {h : List ℕ} {e k : ℕ} (g : Shape s h e) (some : 1 ≤ 
     is-free =
         let p = poolAt s (levelOf s k) in
         let free = start-free p (unitsOf s k) f in
-        record { inside = free-inside p (unitsOf s k) (startOf p (unitsOf s k)) (g .core .low (levelOf s k)) n free; free = free }
+        record { inside = free-inside p (unitsOf s k) (startOf p (unitsOf s k)) free; free = free }
 
     fits-in : poolAt s (levelOf s k) + run (startFor s k) (unitsOf s k) < 2 ^ 64
-    fits-in = granted-low (poolAt s (levelOf s k)) (startFor s k) (unitsOf s k) (g .core .low (levelOf s k)) is-free
+    fits-in = granted-low (poolAt s (levelOf s k)) (startFor s k) (unitsOf s k) is-free (g .core .low (levelOf s k))
 
     apart : bitAnd (poolAt s (levelOf s k)) (run (startFor s k) (unitsOf s k)) ≡ 0
-    apart = run-apart (poolAt s (levelOf s k)) (startFor s k) (unitsOf s k) (g .core .low (levelOf s k)) is-free
+    apart = run-apart (poolAt s (levelOf s k)) (startFor s k) (unitsOf s k) is-free
 
     pub grant : Shape (givenRun s k) h e
     unfolding givenRun

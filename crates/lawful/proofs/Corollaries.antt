@@ -1,23 +1,31 @@
--- What the rules give in demand 3's own words: each block stands in at most one queue, and there once; two runs of a level do not meet.
--- The first by counting over the nine queues, the second since two terms are at most the sum.
-use mathlib.Core.Path.{_≡_, sym, ap, _∙_}
+-- What the rules give in demand 3's own words: each block stands in at most one queue, and there once; each unit of a level is in one run or free, and
+-- two runs of a level do not meet. The first by counting over the nine queues, the others since two terms are at most the sum.
+use mathlib.Core.Bool.{Bool, true, _&&_}
+use mathlib.Core.Path.{_≡_, refl, sym, ap, _∙_}
 use mathlib.Core.Logic.{_⊎_, inl, inr, ⊎-elim}
 use mathlib.Core.List.{List, [], _∷_}
 use Prim.Native.Nat.{ℕ, zero, suc, _+_, _-_, _≤_, _<_}
 use native.Mathlib.Omega.{arith}
 use native.Mathlib.Nat.{le-of-suc-le-suc, not-suc-le-zero}
 use lib.ListN.{length, getD}
+use lib.Dec.{eqb}
+use borrow.Author.Tests.{eqb-true}
 use Rattle.threads.specs.Threads.{count, counts, Apart}
+use Rattle.words.specs.Words.{if_then_else_, oneTo, howMany, has}
 use Rattle.words.proofs.Places.{under-or-from}
 use Rattle.tables.specs.declared.Task.{Task}
 use Rattle.tables.specs.State.{State, node, taskAt, requestAt, poolAt, queue, levelOf}
 use Rattle.tables.specs.Blocks.{noTask}
-use Rattle.meaning.specs.Rules.{queueFor}
+use Rattle.meaning.specs.Rules.{queueFor, holdsUnit}
 use Rattle.lawful.specs.Shape.{sum, one, placeOf, Shape, holding}
 use Rattle.lawful.proofs.PlaceRules.{channelFor, only-channel}
+use Rattle.lawful.proofs.CoreRules.{holding-number, units-held}
+use Rattle.lawful.proofs.Cored.{used-holder}
+use Rattle.lawful.proofs.Members.{level-best, level-worst}
 use Rattle.lawful.proofs.Sums.{sum-le}
 use Rattle.lawful.proofs.Shape.{one-other, one-le, one-suc}
-use Rattle.lawful.proofs.Bits.{bit-le}
+use Rattle.lawful.proofs.Bits.{bit-le, bit-of}
+use Rattle.lawful.proofs.Truth.{both}
 use Rattle.lawful.proofs.Queues.{counts-none}
 
 -- ---- A block stands in at most one queue, and there once.
@@ -58,7 +66,7 @@ shape-apart {s} g =
       );
     }
 
--- ---- Two runs of a level do not meet.
+-- ---- Each unit of a level is in one run or free, and two runs of a level do not meet.
 sum-two : (f : Task → ℕ) (l : List Task) (i j : ℕ) → i < j → j < length l → f (getD l i noTask) + f (getD l j noTask) ≤ sum f l
 unfolding sum
 sum-two f [] i j a b = absurd (not-suc-le-zero b)
@@ -67,12 +75,36 @@ sum-two f (t ∷ l) zero zero a b = absurd (not-suc-le-zero a)
 sum-two f (t ∷ l) (suc i) zero a b = absurd (not-suc-le-zero a)
 sum-two f (t ∷ l) (suc i) (suc j) a b = omega (arith, sum-two f l i j (le-of-suc-le-suc a) (le-of-suc-le-suc b))
 
-pub runs-apart : {s : State} {h : List ℕ} {e : ℕ} → Shape s h e → (i j level u : ℕ) → i < j → j ≤ 24 → 1 ≤ level → level ≤ 3
-    → holding (s .directory) level u (taskAt s i) + holding (s .directory) level u (taskAt s j) ≤ 1
-runs-apart {s} g i j level u a b lo hi =
-    omega (
-      arith,
-      sum-two (holding (s .directory) level u) (s .tasks) i j a (omega (arith, b, g .sizes .tasks)),
-      g .core .units level u lo hi,
-      bit-le (poolAt s level) u,
-    )
+module _ {s : State} {h : List ℕ} {e : ℕ} (g : Shape s h e) where
+  -- each unit of a level is in one run where it is granted, and in none where it is free
+  pub units-make : (level u : ℕ) → 1 ≤ level → level ≤ 3 → howMany (holdsUnit s level u) (oneTo 24) ≡ (if has (poolAt s level) u then 1 else 0)
+  units-make level u lo hi =
+      sym (units-held s (g .sizes .tasks) (g .blank .block) level u) ∙ g .core .units level u lo hi ∙ bit-of (poolAt s level) u refl
+
+  -- who holds a unit of a level is a task of it
+  of-level : (level u k : ℕ) → 1 ≤ k → k ≤ 24 → holdsUnit s level u k ≡ true → (1 ≤ level) × (level ≤ 3)
+  unfolding holdsUnit
+  of-level level u k a b o =
+      let c = both (eqb (taskAt s k .core) 1 && eqb (levelOf s k) level) _ o .0 in
+      let own = both (eqb (taskAt s k .core) 1) (eqb (levelOf s k) level) c in
+      let used = used-holder g a b (eqb-true (taskAt s k .core) 1 (own .0)) in
+      let z = eqb-true (levelOf s k) level (own .1) in
+      (omega (arith, z, level-best g a b used), omega (arith, z, level-worst g a b used))
+
+  one-holds : (i j level u : ℕ) → 1 ≤ i → i < j → j ≤ 24 → holdsUnit s level u i ≡ true → holdsUnit s level u j ≡ true → ⊥
+  one-holds i j level u some l low a b =
+      let v = of-level level u i some (omega arith) a in
+      omega (
+        arith,
+        sum-two (holding (s .directory) level u) (s .tasks) i j l (omega (arith, low, g .sizes .tasks)),
+        holding-number s level u i ∙ ap (λ (x : Bool). if x then 1 else 0) a,
+        holding-number s level u j ∙ ap (λ (x : Bool). if x then 1 else 0) b,
+        g .core .units level u (v .0) (v .1),
+        bit-le (poolAt s level) u,
+      )
+
+  pub runs-apart : (i j level u : ℕ) → 1 ≤ i → i ≤ 24 → 1 ≤ j → j ≤ 24 → holdsUnit s level u i ≡ true → holdsUnit s level u j ≡ true → i ≡ j
+  runs-apart i j level u a b c d p q =
+      ⊎-elim (λ (l : i < j). absurd (one-holds i j level u a l d p q))
+      (λ (l : j ≤ i). ⊎-elim (λ (m : j < i). absurd (one-holds j i level u c m b q p)) (λ (m : i ≤ j). omega arith) (under-or-from j i))
+      (under-or-from i j)

@@ -7,13 +7,13 @@ use mathlib.Core.List.{List, [], _∷_}
 use Prim.Native.Nat.{ℕ, _≤_}
 use native.Mathlib.Omega.{arith}
 use lib.ListN.{set, getD}
-use lib.Seq.{getD-set-same, getD-set-other}
+use lib.Seq.{set-set, getD-set-same, getD-set-other}
 use lib.Dec.{eqb}
 use Rattle.threads.specs.Threads.{count}
 use Rattle.threads.proofs.Lists.{tested, count-nil}
 use Rattle.words.specs.Words.{if_then_else_, upBy}
 use Rattle.tables.specs.declared.Request.{Request}
-use Rattle.tables.specs.State.{State, eventQueue, channelQueue, requestOf, taskAt, requestAt, queue, levelOf}
+use Rattle.tables.specs.State.{State, eventQueue, channelQueue, requestOf, withChannel, taskAt, requestAt, queue, levelOf}
 use Rattle.tables.specs.Blocks.{Running, InLink, InCheck, Ending, Queued, OnChannel, Done, request, noRequest}
 use Rattle.calls.specs.declared.Call.{Call}
 use Rattle.meaning.specs.Ready.{madeReady}
@@ -222,17 +222,30 @@ module _ {s : State} (g : Lawful s) (n : s .channel ≢ 0) where
       (tested (p .0) (s .channel))))
       (excused g n)
 
-pub transferred-keeps : {s : State} (c : Call) → Lawful s → s .channel ≢ 0 → Settled (ioDone s c .state)
+-- ---- The meaning frees the block as it leaves the channel, and the code once it is marked done: one state.
+freed-done : (s : State) → freedRequest (withChannel s 0) (s .channel) ≡ freedRequest (off s) (s .channel)
+unfolding freedRequest
+freed-done s = rw (set-set (s .requests) (s .channel) (over s) noRequest)
+
+pub done-first : (s : State) (c : Call) → let r = s .channel in let k = owner s in
+    ioDone s c .state ≡ channelFilled
+    (if eqb (taskAt s k .place) InCheck && eqb (taskAt s k .request) r then madeReady (freedRequest (off s) r) k
+    else if eqb (taskAt s k .place) Ending && not (pending (off s) k) then finished (freedRequest (off s) r) k
+    else off s)
 unfolding ioDone
+done-first s c = rw (← freed-done s)
+
+pub transferred-keeps : {s : State} (c : Call) → Lawful s → s .channel ≢ 0 → Settled (ioDone s c .state)
 transferred-keeps {s} c g n =
-    ⊎-elim
+    rw (done-first s c)
+    (⊎-elim
     (λ a.
     ⊎-elim
     (λ b. rw (a .0, b .0) (checked g n (a .1)))
     (λ b. rw (a .0, b .0) (rest-of (λ z. b .1)))
     (tested (taskAt s (owner s) .request) (s .channel)))
     (λ a. rw (a .0) (rest-of (λ z. absurd (a .1 z))))
-    (tested (taskAt s (owner s) .place) InCheck)
+    (tested (taskAt s (owner s) .place) InCheck))
   where
     rest-of : (taskAt s (owner s) .place ≡ InCheck → taskAt s (owner s) .request ≢ s .channel)
         → Settled (channelFilled (if eqb (taskAt s (owner s) .place) Ending && not (pending (off s) (owner s)) then finished (freedRequest (off s) (s .channel)) (owner s) else off s))

@@ -40,7 +40,7 @@ use Rattle.lawful.proofs.Calls.{new, new-apart, rest-stopped}
 use Rattle.lawful.proofs.Link.{linked}
 use Rattle.lawful.proofs.Signal.{Walk, walk-step, signal-walk}
 use Rattle.lawful.proofs.Timer.{walk-tick, timer-walk, worst}
-use Rattle.lawful.proofs.IoDone.{off, owner, freed-hand, freed-rest, last-quiet}
+use Rattle.lawful.proofs.IoDone.{off, owner, freed-hand, freed-rest, last-quiet, done-first}
 use Rattle.lawful.proofs.Keeps.{needs, one-of, last}
 use Rattle.lawful.proofs.Turns.{Turns, quiet, stays, then-turns}
 use Rattle.lawful.proofs.GetsInTurn.{holders-kept, holders-lost, made-turns, back-turns}
@@ -265,9 +265,9 @@ module _ {s : State} (c : Call) (g : Lawful s) where
 
   -- I/O done: the owner waits on it in CHECK, or is ending and this was its last, or neither
   io-turns : s .channel ≢ 0 → Turns s (ioDone s c .state)
-  unfolding ioDone
   io-turns n =
-      then-turns
+      rw (done-first s c)
+      (then-turns
       (then-turns {t = off s} (untouched refl refl refl)
       (chosen (eqb (taskAt s (owner s) .place) InCheck && eqb (taskAt s (owner s) .request) (s .channel))
       (λ e. then-turns (freed-turns (off s) (s .channel)) (made-turns (freed-hand g n (in-check (both _ _ e .0)))))
@@ -275,7 +275,7 @@ module _ {s : State} (c : Call) (g : Lawful s) where
       (λ d. then-turns (freed-turns (off s) (s .channel))
       (let f = both _ _ d in finished-turns (freed-hand g n (is-ending (f .0))) (freed-rest g n) (last-quiet g n (eqb-true _ _ (f .0)) (none-pending _ (f .1)))))
       (λ d. stays (off s)))))
-      (filled-turns _)
+      (filled-turns _))
     where
       none-pending : (b : Bool) → not b ≡ true → b ≡ false
       none-pending false e = refl

@@ -5,7 +5,7 @@ use mathlib.Core.Path.{_≡_, refl, sym, _∙_}
 use mathlib.Core.List.{List}
 use Prim.Native.Nat.{ℕ}
 use borrow.Author.Tests.{eq-eqb}
-use Rattle.threads.specs.Threads.{walk, queuesOf, threaded, row, tab, flat, after, before, counts, count}
+use Rattle.threads.specs.Threads.{walk, queuesOf, threaded, row, tab, listOf, after, before, counts, count}
 use Rattle.words.specs.Words.{_among_, below, oneTo, allOf, howMany, sameList, upBy, standing, allTrue}
 use Rattle.words.specs.Rows.{firstOf}
 use Rattle.image.specs.declared.Directory.{Directory}
@@ -23,11 +23,11 @@ use Rattle.meaning.specs.Step.{refused, stepOf, tablesOf}
 
 -- Nine empty queues are sound, and read back as they are.
 empty-sound : (d : Directory) → rules.pointersSound (tabled (loaded d) .threads) ≡ true
-unfolding loaded rules.pointersSound rules.everywhere queuesOf threaded walk row tab flat after before counts count allOf oneTo sameList
+unfolding loaded rules.pointersSound rules.everywhere queuesOf threaded walk row tab listOf _among_ after before counts count allOf oneTo sameList
 empty-sound d = refl
 
 read-loaded : (d : Directory) → read (tabled (loaded d)) ≡ loaded d
-unfolding loaded queuesOf threaded walk row tab flat after before
+unfolding loaded queuesOf threaded walk row tab listOf _among_ after before
 read-loaded d = refl
 
 -- A free block has no core, whatever its module's units are.
@@ -53,7 +53,7 @@ load-lawful image e =
 
 -- "with all-zero tables, on which every call answers 9"
 zero-unlawful : rulesHold (tabled allZero) ≡ false
-unfolding rulesHold allTrue stateRules allZero rules.directoryPasses directoryRows firstOf rules.pointersSound rules.everywhere queuesOf threaded walk row tab flat after before counts count allOf oneTo sameList
+unfolding rulesHold allTrue stateRules allZero rules.directoryPasses directoryRows firstOf rules.pointersSound rules.everywhere queuesOf threaded walk row tab listOf _among_ after before counts count allOf oneTo sameList
 zero-unlawful = refl
 
 pub zero-refused : (bytes : List ℕ) → stepOf (tabled allZero) bytes ≡ refused (tabled allZero) 9

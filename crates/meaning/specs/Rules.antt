@@ -16,7 +16,7 @@ use Rattle.tables.specs.declared.Tables.{Tables}
 use Rattle.tables.specs.Blocks.{taskBlocks, requestBlocks, Free, Running, Ready, InCore, InEvent, InTime, InLink, InCheck, Ending, Queued, OnChannel, Done, HoldsRun, GaveBack, NotGranted}
 use Rattle.tables.specs.State.{State, eventQueue, readyQueue, coreQueue, timeQueue, channelQueue, noQueue, node, taskAt, requestAt, poolAt, queue, levelOf, unitsOf, read}
 use Rattle.meaning.specs.Conditions.{undefinedIn, enough}
-use Rattle.pools.specs.Pools.{run}
+use Rattle.pools.specs.Pools.{inRun}
 use Rattle.meaning.specs.Ready.{fits, needsCore}
 use Rattle.meaning.specs.Finish.{pendingOf, pending}
 use Rattle.meaning.specs.Channel.{channelLevel}
@@ -135,15 +135,17 @@ fieldsClear s =
 -- ---- "demand 3 but for its words on new dispatches". "Each task and request block is in exactly one place, its threads agreeing forward and back":
 -- the rules of this paragraph, above.
 
--- "Core runs of a level are disjoint and with its free units make 64": a unit is granted where one task's run has it, and free where none has
+-- the unit u of the level is in the run of the task k
 unfoldable pub holdsUnit : State → ℕ → ℕ → ℕ → Bool
 holdsUnit s level u k =
-    eqb (taskAt s k .core) HoldsRun && eqb (levelOf s k) level && has (run (taskAt s k .start) (unitsOf s k)) u
+    eqb (taskAt s k .core) HoldsRun && eqb (levelOf s k) level && inRun (taskAt s k .start) (unitsOf s k) u
 
+-- "Core runs of a level are disjoint and with its free units make 64": a unit is granted where one task's run has it, and free where none has
 unfoldable pub coreHeld : State → Bool
 coreHeld s =
     everyLevel (λ level. allOf (λ u.
-    eqb (howMany (holdsUnit s level u) (oneTo taskBlocks)) (if has (poolAt s level) u then 1 else 0)) (below 64))
+    let holders = howMany (holdsUnit s level u) (oneTo taskBlocks) in
+    eqb holders (if has (poolAt s level) u then 1 else 0)) (below 64))
 
 -- "LINK parents never form a ring": from each task, parent by parent, one comes to none
 unfoldable pub upward : State → ℕ → ℕ → ℕ

@@ -121,11 +121,14 @@ ioDone s c =
     let r = s .channel in
     let k = requestAt s r .owner in
     let t = taskAt s k in
-    let left = requestPlaced (withChannel s 0) r Done in
+    let left = withChannel s 0 in
+    let done = requestPlaced left r Done in
+    let waits = eqb (t .place) InCheck && eqb (t .request) r in
+    let last = eqb (t .place) Ending && not (pending done k) in
     channelFilled
-    (if eqb (t .place) InCheck && eqb (t .request) r then madeReady (freedRequest left r) k
-    else if eqb (t .place) Ending && not (pending left k) then finished (freedRequest left r) k
-    else left)
+    (if waits then madeReady (freedRequest left r) k
+    else if last then finished (freedRequest left r) k
+    else done)
     giving 1
 
 -- "Program check aborts the running task." The chain has at most 24 tasks.

@@ -12,9 +12,10 @@ use lib.Seq.{drop-cons, getD-set-same, getD-set-other, ext-getD}
 use lib.Dec.{eqb, leb}
 use borrow.Author.Tests.{eq-eqb, eqb-true, leb-true}
 use Rattle.threads.specs.declared.Threads.{Threads}
-use Rattle.threads.specs.Threads.{hd, lst, after, before, counts, flat, row, threaded, Sound}
+use Rattle.threads.specs.Threads.{hd, lst, after, before, listOf, counts, row, threaded, Sound}
 use Rattle.threads.proofs.Lists.{tested, count-nil, count-hit, count-past, after-here, after-past, before-here, before-past}
 use Rattle.threads.proofs.Rows.{length-row, row-at}
+use Rattle.threads.proofs.Flat.{flat, after-flat, before-flat}
 use Rattle.threads.proofs.Read.{sound}
 use Rattle.words.specs.Words.{oneTo}
 use Rattle.lawful.proofs.Truth.{both}
@@ -194,8 +195,9 @@ unmarked z h = getD-replicate 41 z 9 0 (omega arith)
 threads-is : (t : Threads) → Lengths t → (r : Ran t 0 0 (getD (t .first) 0 0) (replicate 41 9)) → t ≡ threaded (r .here ∷ r .later)
 unfolding threaded
 threads-is t s r =
-    let fwd = row-is (t .fwd) (after (flat (r .here ∷ r .later))) (s .fwd) (r .slot .0) (λ z a b. r .next z a b (unmarked z b)) in
-    let back = row-is (t .back) (before 0 (flat (r .here ∷ r .later))) (s .back) (r .slot .1) (λ z a b. r .prev z a b (unmarked z b)) in
+    let ls = r .here ∷ r .later in
+    let fwd = row-is (t .fwd) (λ y. after (listOf y ls) y) (s .fwd) (r .slot .0) (λ z a b. r .next z a b (unmarked z b) ∙ after-flat z a ls) in
+    let back = row-is (t .back) (λ y. before 0 (listOf y ls) y) (s .back) (r .slot .1) (λ z a b. r .prev z a b (unmarked z b) ∙ before-flat z a ls) in
     let first : t .first ≡ map hd (r .here ∷ r .later) =
     drop-cons (t .first) 0 0 (omega (arith, s .first)) ∙ ap₂ (λ (a : ℕ) (l : List ℕ). a ∷ l) (r .start) (sym (r .firsts)) in
     let last = sym (r .lasts) in

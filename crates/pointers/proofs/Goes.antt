@@ -11,9 +11,10 @@ use lib.ListN.{length, set, getD, take, drop, replicate, length-append, length-s
 use lib.Seq.{drop-cons, getD-set-same, getD-set-other, append-snoc}
 use borrow.Author.Tests.{eq-eqb}
 use Rattle.threads.specs.declared.Threads.{Threads}
-use Rattle.threads.specs.Threads.{hd, lst, after, before, count, counts, flat, row, threaded, Apart, queueIn, queuesOf, Sound}
-use Rattle.threads.proofs.Lists.{tested, count-nil, count-append, count-hit, count-past, count-one, count-flat, after-none, before-none, lst-append}
+use Rattle.threads.specs.Threads.{hd, lst, after, before, count, counts, row, threaded, Apart, queueIn, queuesOf, Sound}
+use Rattle.threads.proofs.Lists.{tested, count-nil, count-append, count-hit, count-past, count-one, after-none, before-none, lst-append}
 use Rattle.threads.proofs.Rows.{row-at}
+use Rattle.threads.proofs.Flat.{flat, count-flat, fwd-row, back-row}
 use Rattle.threads.proofs.Laws.{member}
 use Rattle.threads.proofs.Short.{length-once}
 use Rattle.threads.proofs.Read.{first-of, last-of, next-of, prev-of}
@@ -89,11 +90,11 @@ clear-shown t m y h =
 
 module _ (t : Threads) (s : Sound t) where
   loose : (z : ℕ) → 1 ≤ z → z ≤ 40 → counts z (queuesOf t) ≡ 0 → (getD (t .fwd) z 0 ≡ 0) × (getD (t .back) z 0 ≡ 0)
-  unfolding threaded
   loose z a b n =
-      let none : count z (flat (queuesOf t)) ≡ 0 = count-flat z (queuesOf t) a ∙ n in (
-        ap (λ (u : Threads). getD (u .fwd) z 0) (s .canon) ∙ row-at (after (flat (queuesOf t))) z a b ∙ after-none (flat (queuesOf t)) z none,
-        ap (λ (u : Threads). getD (u .back) z 0) (s .canon) ∙ row-at (before 0 (flat (queuesOf t))) z a b ∙ before-none 0 (flat (queuesOf t)) z none,
+      let ls = queuesOf t in
+      let none : count z (flat ls) ≡ 0 = count-flat z ls a ∙ n in (
+        ap (λ (l : List ℕ). getD l z 0) (ap (λ (u : Threads). u .fwd) (s .canon) ∙ fwd-row ls) ∙ row-at (after (flat ls)) z a b ∙ after-none (flat ls) z none,
+        ap (λ (l : List ℕ). getD l z 0) (ap (λ (u : Threads). u .back) (s .canon) ∙ back-row ls) ∙ row-at (before 0 (flat ls)) z a b ∙ before-none 0 (flat ls) z none,
       )
 
   slot : (getD (t .fwd) 0 0 ≡ 0) × (getD (t .back) 0 0 ≡ 0)

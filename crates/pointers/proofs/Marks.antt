@@ -12,8 +12,9 @@ use lib.Seq.{getD-set-same, getD-set-other, append-snoc}
 use lib.Dec.{eqb}
 use borrow.Author.Tests.{eq-eqb, ne-eqb}
 use Rattle.threads.specs.declared.Threads.{Threads}
-use Rattle.threads.specs.Threads.{hd, count, counts, flat, queueIn, queuesOf, Sound}
+use Rattle.threads.specs.Threads.{hd, count, counts, queueIn, queuesOf, Sound}
 use Rattle.threads.proofs.Lists.{tested, count-nil, count-append, count-hit, count-past, count-one, absent-head}
+use Rattle.threads.proofs.Flat.{flat}
 use Rattle.threads.proofs.Laws.{member}
 use Rattle.threads.proofs.Read.{first-of, next-of}
 use Rattle.words.specs.Words.{if_then_else_, _among_, standing}

@@ -14,7 +14,7 @@ use Rattle.pools.specs.declared.Found.{Found}
 use Rattle.pools.specs.declared.Found.the-variants.{At, Nowhere}
 use Rattle.pools.specs.Pools.{run, freeAt}
 use Rattle.pools.specs.Find.{foundOf}
-use Rattle.pools.proofs.Units.{free-has, free-below, free-shown}
+use Rattle.pools.proofs.Units.{free-inside, free-has, free-shown}
 use Rattle.pools.proofs.Starts.{start-is, start-none, found-at, found-nowhere}
 use Rattle.pools.proofs.Runs.{run-low}
 use Rattle.pools.proofs.find.Reads as find
@@ -24,22 +24,19 @@ abbrev pub allBut : ℕ → ℕ → ℕ
 allBut s n = 2 ^ 64 - 1 - run s n
 
 module _ (s n : ℕ) (inside : s + n ≤ 64) where
-  all-low : allBut s n < 2 ^ 64
-  all-low = omega arith
-
   -- a free unit is one of the run
   in-free : (m a u : ℕ) → freeAt (allBut s n) m a ≡ true → a ≤ u → u < a + m → (s ≤ u) × (u < s + n)
   in-free m a u h l k =
-      let here : ltb u 64 ≡ true = lt-ltb u 64 (free-below (allBut s n) m a all-low h u l k) in
-      let out : (ltb u 64 && not (has (run s n) u)) ≡ false = sym (has-rest 64 (run s n) u (run-low s n inside)) ∙ free-has (allBut s n) m a all-low h u l k in
+      let here : ltb u 64 ≡ true = lt-ltb u 64 (omega (arith, free-inside (allBut s n) m a h)) in
+      let out : (ltb u 64 && not (has (run s n) u)) ≡ false = sym (has-rest 64 (run s n) u (run-low s n inside)) ∙ free-has (allBut s n) m a h u l k in
       of-run s n u (⊎-elim (λ y. y) (λ (x : has (run s n) u ≡ false). absurd (true≢false (rw (here, x) at out))) (true-or-false (has (run s n) u)))
 
   pub as-many : (m : ℕ) → 1 ≤ m → m ≤ n → foundOf (allBut s n) m ≡ At s
   as-many m some few =
       found-at (allBut s n) m s
       (start-is (allBut s n) m s (omega arith)
-      (free-shown (allBut s n) m s all-low
-      (λ u l k. (omega arith, has-rest 64 (run s n) u (run-low s n inside) ∙ rw (in-run s n u l (omega arith), lt-ltb u 64 (omega arith)))))
+      (free-shown (allBut s n) m s (omega arith)
+      (λ u l k. has-rest 64 (run s n) u (run-low s n inside) ∙ rw (in-run s n u l (omega arith), lt-ltb u 64 (omega arith))))
       (λ b l.
       ⊎-elim (λ (h : freeAt (allBut s n) m b ≡ true). absurd (omega (arith, in-free m b b h (omega arith) (omega arith)))) (λ h. h)
       (true-or-false (freeAt (allBut s n) m b))))

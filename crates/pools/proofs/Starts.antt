@@ -2,7 +2,7 @@
 use mathlib.Core.Bool.{true, false}
 use mathlib.Core.Path.{_≡_, refl}
 use mathlib.Core.Logic.{⊎-elim}
-use Prim.Native.Nat.{ℕ, _^_, _≤_, _<_}
+use Prim.Native.Nat.{ℕ, _≤_, _<_}
 use native.Mathlib.Omega.{arith}
 use borrow.Author.Tests.{lt-ltb}
 use Rattle.words.proofs.Lowest.{lowest-to, lowest-passes, lowest-first, lowest-is, lowest-none}
@@ -55,11 +55,8 @@ module _ (g n : ℕ) where
       (under-or-from (startOf g n) 64)
 
 -- what is found can be granted
-pub found-run : (g n a : ℕ) → g < 2 ^ 64 → foundOf g n ≡ At a → FreeRun g a n
-found-run g n a low e =
+pub found-run : (g n a : ℕ) → foundOf g n ≡ At a → FreeRun g a n
+found-run g n a e =
     let s = at-start g n a e in
     let f : freeAt g n a ≡ true = rw (s .0) at (start-free g n (omega (arith, s .0, s .1))) in
-    record {
-      inside = ⊎-elim (λ (z : n < 1). omega (arith, s .1)) (λ (m : 1 ≤ n). free-inside g n a low m f) (under-or-from n 1);
-      free = f;
-    }
+    record { inside = free-inside g n a f; free = f }

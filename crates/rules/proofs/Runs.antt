@@ -16,7 +16,7 @@ use Rattle.words.proofs.Masks.{has-run}
 use Rattle.words.proofs.Members.{has-above}
 use Rattle.words.proofs.Lists.{all-at, all-shown}
 use Rattle.words.proofs.Places.{under-or-from}
-use Rattle.pools.specs.Pools.{run}
+use Rattle.pools.specs.Pools.{inRun, run}
 use Rattle.tables.specs.declared.Tables.{Tables}
 use Rattle.tables.specs.State.{State, taskAt, poolAt, levelOf, unitsOf, read}
 use Rattle.meaning.specs.Rules.{holdsUnit, coreHeld}
@@ -45,7 +45,7 @@ module _ (s : State) where
 
   holds-has : (level u k : ℕ) → taskAt s k .core ≡ 1 → levelOf s k ≡ level → has (run (taskAt s k .start) (unitsOf s k)) u ≡ holdsUnit s level u k
   unfolding holdsUnit
-  holds-has level u k e n = rw (eq-eqb (taskAt s k .core) 1 e, eq-eqb (levelOf s k) level n)
+  holds-has level u k e n = rw (eq-eqb (taskAt s k .core) 1 e, eq-eqb (levelOf s k) level n) (has-run (taskAt s k .start) (unitsOf s k) u)
 
   module _ {k : ℕ} {one two : List ℕ} (c : Counted s k one two) where
     -- a task that holds no run
@@ -86,9 +86,8 @@ module _ (t : Tables) (o : Orderly t) where
   high level u l k a b =
       ⊎-elim
       (λ z.
-      fails-right (eqb (taskAt s k .core) 1 && eqb (levelOf s k) level) (has (run (taskAt s k .start) (unitsOf s k)) u)
-      (has-run (taskAt s k .start) (unitsOf s k) u
-      ∙ fails-right (leb (taskAt s k .start) u) _ (le-ltb u (taskAt s k .start + unitsOf s k) (omega (arith, run-fits t o k a b (z .1))))))
+      fails-right (eqb (taskAt s k .core) 1 && eqb (levelOf s k) level) (inRun (taskAt s k .start) (unitsOf s k) u)
+      (fails-right (leb (taskAt s k .start) u) _ (le-ltb u (taskAt s k .start + unitsOf s k) (omega (arith, run-fits t o k a b (z .1))))))
       (λ z. rw (z .0)) (tested (taskAt s k .core) 1)
 
   -- each unit of a level is met as its pool wants it

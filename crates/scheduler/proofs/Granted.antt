@@ -1,21 +1,17 @@
 -- Laws of granting core and of getting ready, case by case.
 use mathlib.Core.Bool.{Bool, true, false, cond, _&&_}
 use mathlib.Core.Path.{_≡_, refl, sym, ap, ap₂, _∙_}
-use mathlib.Core.Logic.{⊎-elim}
-use Prim.Native.Nat.{ℕ, _+_, _-_, _/_, _%_, _^_, _≤_, _<_}
+use Prim.Native.Nat.{ℕ, _+_, _≤_, _<_}
 use native.Mathlib.Omega.{arith}
-use native.Mathlib.Nat.{eq-zero-or-pos}
 use lib.Dec.{eqb, ltb}
 use borrow.Author.Tests.{lt-ltb, le-ltb, ltb-false}
 use Rattle.threads.specs.Threads.{counts}
 use Rattle.words.specs.Words.{isEmpty}
-use Rattle.words.proofs.Places.{under-or-from}
 use Rattle.pools.specs.declared.Found.the-variants.{At, Nowhere}
-use Rattle.pools.specs.Pools.{run, freeAt, startOf}
+use Rattle.pools.specs.Pools.{run, startOf}
 use Rattle.pools.specs.Runs.{FreeRun}
 use Rattle.pools.specs.Find.{foundOf}
-use Rattle.pools.proofs.Starts.{start-free, found-at, at-start, found-run}
-use Rattle.pools.proofs.Units.{free-inside}
+use Rattle.pools.proofs.Starts.{found-at, at-start, found-run}
 use Rattle.image.specs.declared.Entry.{Entry}
 use Rattle.image.specs.Directory.{entryAt}
 use Rattle.tables.specs.declared.Task.{Task}
@@ -35,27 +31,9 @@ nowhere-start g n e = go (ltb (startOf g n) 64) refl e
     go true f h = let z : At (startOf g n) ≡ Nowhere = rw f at h in let y : _≡_ {A = ℕ} 0 1 = cc in absurd (omega arith)
     go false f h = ltb-false (startOf g n) 64 f
 
--- a pool with more than all units granted has none free, as the pool with all
-above-all : (g n a : ℕ) → 2 ^ 64 ≤ g → freeAt g n a ≡ freeAt (2 ^ 64 - 1) n a
-unfolding freeAt
-above-all g n a h =
-    let e : 2 ^ 64 - 1 - g ≡ 2 ^ 64 - 1 - (2 ^ 64 - 1) = omega arith in
-    ap (λ (x : ℕ). eqb (x / 2 ^ a % 2 ^ n) (2 ^ n - 1)) e
-
 -- what the search finds is a free run
 start-run : (g n a : ℕ) → a ≡ startOf g n → a < 64 → FreeRun g a n
-start-run g n a e l =
-    ⊎-elim (λ (h : g < 2 ^ 64). found-run g n a h (found-at g n a (sym e) l)) (λ (h : 2 ^ 64 ≤ g). full h) (under-or-from g (2 ^ 64))
-  where
-    free : freeAt g n a ≡ true
-    free = rw e (start-free g n (omega (arith, e)))
-
-    full : 2 ^ 64 ≤ g → FreeRun g a n
-    full h =
-        record {
-          inside = ⊎-elim (λ (z : n ≡ 0). omega arith) (λ (z : 0 < n). free-inside (2 ^ 64 - 1) n a (omega arith) z (sym (above-all g n a h) ∙ free)) (eq-zero-or-pos n);
-          free = free;
-        }
+start-run g n a e l = found-run g n a (found-at g n a (sym e) l)
 
 -- a grant leaves the task its module
 pub level-granted : (s : State) (k : ℕ) → levelOf (givenRun s k) k ≡ levelOf s k

@@ -8,10 +8,11 @@ use lib.ListN.{set, take, drop}
 use lib.Seq.{map-set-same, append-snoc}
 use borrow.Author.Tests.{ne-eqb}
 use Rattle.threads.specs.declared.Threads.{Threads}
-use Rattle.threads.specs.Threads.{hd, lst, after, before, count, flat, row, threaded}
+use Rattle.threads.specs.Threads.{hd, lst, after, before, count, row, threaded}
 use Rattle.threads.specs.Joints.{put, putEnd, joined}
-use Rattle.threads.proofs.Lists.{lst-append, count-flat, lst-flat, flat-set}
+use Rattle.threads.proofs.Lists.{lst-append}
 use Rattle.threads.proofs.Rows.{stored, put-some}
+use Rattle.threads.proofs.Flat.{flat, count-flat, lst-flat, flat-set, hd-row, fwd-row, back-row}
 use Rattle.threads.proofs.Links as links
 use Rattle.threads.proofs.Links.{Spliced}
 use Rattle.threads.proofs.Laws.{Spot, first-block, last-block, onward, inside, self, sides, nowhere}
@@ -55,10 +56,6 @@ lasts {ls} {q} {A} {B = b ∷ B} s C =
     ∙ sym (map-set-same (lst 0) ls q (C ++ b ∷ B) [] (lst-append 0 C (b ∷ B) ∙ sym (lst-append 0 A (b ∷ B)) ∙ ap (lst 0) (sym (s .split))))
 
 -- ---- The links in the row of all lists.
-
-hd-row : (B F : List ℕ) → hd (B ++ 0 ∷ F) ≡ hd B
-hd-row [] F = refl
-hd-row (b ∷ B) F = refl
 
 module _ {bare full : List (List ℕ)} {q : ℕ} {A B : List ℕ} {x : ℕ} (g : Gap bare full q A B x) where
   abbrev P : List ℕ
@@ -111,11 +108,15 @@ module _ {bare full : List (List ℕ)} {q : ℕ} {A B : List ℕ} {x : ℕ} (g :
       let last =
       ap (λ (a : List ℕ). putEnd (hd B) a q x) (putEnd-some x _ q (lst 0 A) (some g))
       ∙ (rw (lst-append, append-snoc A x B) at (lasts (g .without) (A ++ (x ∷ [])))) ∙ ap (map (lst 0)) (sym (g .filled)) in
-      λ i. record { fwd = put-in (forward g) i; back = put-in′ (backward g) i; first = first i; last = last i }
+      let fwd = ap (λ (a : List ℕ). put (put a (lst 0 A) x) x (hd B)) (fwd-row bare) ∙ put-in (forward g) ∙ sym (fwd-row full) in
+      let back = ap (λ (a : List ℕ). put (put a x (lst 0 A)) (hd B) x) (back-row bare) ∙ put-in′ (backward g) ∙ sym (back-row full) in
+      λ i. record { fwd = fwd i; back = back i; first = first i; last = last i }
 
   pub out-law : unlinked (threaded full) q (lst 0 A) x (hd B) ≡ threaded bare
   unfolding unlinked joined threaded
   out-law =
       let first = firsts (g .within) B ∙ ap (map hd) (sym (g .emptied)) in
       let last = lasts (onward (g .within)) A ∙ ap (map (lst 0)) (sym (g .emptied)) in
-      λ i. record { fwd = take-out (forward g) (some g) i; back = take-out (backward g) (some g) i; first = first i; last = last i }
+      let fwd = ap (λ (a : List ℕ). set (put a (lst 0 A) (hd B)) x 0) (fwd-row full) ∙ take-out (forward g) (some g) ∙ sym (fwd-row bare) in
+      let back = ap (λ (a : List ℕ). set (put a (hd B) (lst 0 A)) x 0) (back-row full) ∙ take-out (backward g) (some g) ∙ sym (back-row bare) in
+      λ i. record { fwd = fwd i; back = back i; first = first i; last = last i }

@@ -2,6 +2,7 @@
 pub mod Lists
 pub mod Short
 pub mod Rows
+pub mod Flat
 pub mod Links
 pub mod Laws
 pub mod Change

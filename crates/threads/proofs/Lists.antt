@@ -2,15 +2,15 @@
 use mathlib.Core.Bool.{Bool, true, false}
 use mathlib.Core.Path.{_≡_, refl, sym, ap, _∙_}
 use mathlib.Core.Logic.{_≢_, _⊎_, inl, inr, ⊎-elim}
-use mathlib.Core.List.{List, [], _∷_, _++_, append-assoc}
+use mathlib.Core.List.{List, [], _∷_, _++_}
 use Prim.Native.Nat.{ℕ, zero, suc, _+_, _≤_, _<_}
 use native.Mathlib.Omega.{arith}
 use native.Mathlib.Nat.{le-of-suc-le-suc, not-suc-le-zero}
-use lib.ListN.{length, set, getD, take, drop}
+use lib.ListN.{length, set, getD}
 use lib.Seq.{set-getD}
 use lib.Dec.{eqb}
 use borrow.Author.Tests.{eq-eqb, ne-eqb, eqb-true, eqb-false}
-use Rattle.threads.specs.Threads.{hd, lst, after, before, flat, count, counts, without, insertBefore}
+use Rattle.threads.specs.Threads.{hd, lst, after, before, count, counts, without, insertBefore}
 
 -- a test of two numbers, with what it tells
 pub tested : (a y : ℕ) → ((eqb a y ≡ true) × (a ≡ y)) ⊎ ((eqb a y ≡ false) × (a ≢ y))
@@ -128,23 +128,3 @@ pub insert-at : (x v : ℕ) (A B : List ℕ) → count x A ≡ 0 → insertBefor
 unfolding insertBefore
 insert-at x v [] B h = rw (eq-eqb x x refl)
 insert-at x v (a ∷ A) B h = let n = absent-head a x A h in rw (ne-eqb a x (n .0), insert-at x v A B (n .1))
-
--- ---- The lists in a row.
-
-pub count-flat : (y : ℕ) (ls : List (List ℕ)) → 1 ≤ y → count y (flat ls) ≡ counts y ls
-unfolding flat counts count
-count-flat y [] h = refl
-count-flat y (l ∷ ls) h =
-    count-append y l (0 ∷ flat ls) ∙ ap (λ (n : ℕ). count y l + n) (count-past 0 y (flat ls) (omega arith) ∙ count-flat y ls h)
-
-pub lst-flat : (ls : List (List ℕ)) → lst 0 (flat ls) ≡ 0
-unfolding flat
-lst-flat [] = refl
-lst-flat (l ∷ ls) = lst-append 0 l (0 ∷ flat ls) ∙ lst-flat ls
-
-pub flat-set : (ls : List (List ℕ)) (q : ℕ) (l : List ℕ) → q < length ls
-    → flat (set ls q l) ≡ flat (take q ls) ++ (l ++ 0 ∷ flat (drop (suc q) ls))
-unfolding flat
-flat-set [] q l h = absurd (not-suc-le-zero h)
-flat-set (m ∷ ls) zero l h = refl
-flat-set (m ∷ ls) (suc q) l h = rw (flat-set ls q l (le-of-suc-le-suc h), append-assoc)

@@ -9,9 +9,10 @@ use lib.ListN.{length, set, getD, length-map, List·getD-map}
 use lib.Seq.{ext-getD}
 use borrow.Author.Tests.{ne-eqb}
 use Rattle.threads.specs.declared.Threads.{Threads}
-use Rattle.threads.specs.Threads.{QUEUES, BLOCKS, hd, lst, after, before, flat, row, threaded, Apart, queueIn, walk, queuesOf, counts, Sound, Holds, Member, without}
+use Rattle.threads.specs.Threads.{QUEUES, BLOCKS, hd, lst, threaded, Apart, queueIn, walk, queuesOf, counts, Sound, Holds, Member, without}
 use Rattle.threads.proofs.Lists.{split}
 use Rattle.threads.proofs.Rows.{row-at}
+use Rattle.threads.proofs.Flat.{fwd-row, back-row}
 use Rattle.threads.proofs.Laws.{Spot, first-block, member, sides, short, onward, less, restored, nowhere, spot-without}
 use Rattle.threads.proofs.Change.{Gap, forward, backward}
 
@@ -21,18 +22,18 @@ module _ {ls : List (List ℕ)} {q : ℕ} {A B : List ℕ} {x : ℕ} (s : Spot l
   pub gap : Gap (set ls q (A ++ B)) ls q A B x
   gap = record { without = less s; within = s; filled = restored s (A ++ B); emptied = refl }
 
-  made-next : getD (row (after (flat ls))) x 0 ≡ hd B
-  made-next = let b = first-block x B (sides s .1) in row-at _ x (b .0) (b .1) ∙ forward gap .out
+  made-next : getD (threaded ls .fwd) x 0 ≡ hd B
+  made-next = let b = first-block x B (sides s .1) in ap (λ (a : List ℕ). getD a x 0) (fwd-row ls) ∙ row-at _ x (b .0) (b .1) ∙ forward gap .out
 
-  made-prev : getD (row (before 0 (flat ls))) x 0 ≡ lst 0 A
-  made-prev = let b = first-block x B (sides s .1) in row-at _ x (b .0) (b .1) ∙ backward gap .out
+  made-prev : getD (threaded ls .back) x 0 ≡ lst 0 A
+  made-prev = let b = first-block x B (sides s .1) in ap (λ (a : List ℕ). getD a x 0) (back-row ls) ∙ row-at _ x (b .0) (b .1) ∙ backward gap .out
 
 walk-zero : (f : List ℕ) (n : ℕ) → walk f n 0 ≡ []
 unfolding walk
 walk-zero f zero = refl
 walk-zero f (suc n) = refl
 
-along : {ls : List (List ℕ)} {q : ℕ} {A B : List ℕ} → Spot ls q A B → (n : ℕ) → length B ≤ n → walk (row (after (flat ls))) n (hd B) ≡ B
+along : {ls : List (List ℕ)} {q : ℕ} {A B : List ℕ} → Spot ls q A B → (n : ℕ) → length B ≤ n → walk (threaded ls .fwd) n (hd B) ≡ B
 unfolding walk
 along {B = []} s n h = walk-zero _ n
 along {B = b ∷ B} s zero h = absurd (not-suc-le-zero h)
@@ -44,9 +45,9 @@ module _ (ls : List (List ℕ)) (a : Apart ls) where
   made-queue : (q : ℕ) → q < QUEUES → queueIn (queuesOf (threaded ls)) q ≡ queueIn ls q
   unfolding queuesOf threaded
   made-queue q h =
-      let ahead : ℕ → List ℕ = walk (row (after (flat ls))) (suc BLOCKS) in
+      let ahead : ℕ → List ℕ = walk (threaded ls .fwd) (suc BLOCKS) in
       let front : Spot ls q [] (queueIn ls q) = record { apart = a; queue = h; split = refl } in
-      ap (getD (map ahead (map hd ls)) q) (sym (walk-zero (row (after (flat ls))) (suc BLOCKS)))
+      ap (getD (map ahead (map hd ls)) q) (sym (walk-zero (threaded ls .fwd) (suc BLOCKS)))
       ∙ List·getD-map ahead (map hd ls) q 0 ∙ ap ahead (List·getD-map hd ls q []) ∙ along front (suc BLOCKS) (short front)
 
   pub read-back : queuesOf (threaded ls) ≡ ls
@@ -80,16 +81,13 @@ module _ (t : Threads) (s : Sound t) (q : ℕ) (h : q < QUEUES) where
 
   module _ (A B : List ℕ) (x : ℕ) (e : queueIn (queuesOf t) q ≡ A ++ x ∷ B) where
     pub next-of : getD (t .fwd) x 0 ≡ hd B
-    unfolding threaded
     next-of = ap (λ (u : Threads). getD (u .fwd) x 0) (s .canon) ∙ made-next (spot s h A (x ∷ B) e)
 
     pub prev-of : getD (t .back) x 0 ≡ lst 0 A
-    unfolding threaded
     prev-of = ap (λ (u : Threads). getD (u .back) x 0) (s .canon) ∙ made-prev (spot s h A (x ∷ B) e)
 
 -- along the pointers forward from a place
 pub walked : {t : Threads} {q : ℕ} → Sound t → q < QUEUES → (A B : List ℕ) → queueIn (queuesOf t) q ≡ A ++ B → walk (t .fwd) (suc BLOCKS) (hd B) ≡ B
-unfolding threaded
 walked s h A B e =
     let p = spot s h A B e in
     ap (λ (u : Threads). walk (u .fwd) (suc BLOCKS) (hd B)) (s .canon) ∙ along p (suc BLOCKS) (short p)

@@ -42,6 +42,11 @@ row-is a f n z h = ext-getD 0 a (row f) (n ∙ sym (length-row f)) cell
     cell zero k = z
     cell (suc y) k = h (suc y) (omega arith) (omega arith) ∙ sym (row-at f (suc y) (omega arith) (omega arith))
 
+-- so two functions that agree on blocks have one row
+pub row-same : (f g : ℕ → ℕ) → ((y : ℕ) → 1 ≤ y → f y ≡ g y) → row f ≡ row g
+unfolding row
+row-same f g h = row-is (row f) g (length-row f) refl (λ y some low. row-at f y some low ∙ h y some)
+
 -- ---- Stores, each at a block or, at 0, none.
 
 pub put-some : (a : List ℕ) (i v : ℕ) → 1 ≤ i → put a i v ≡ set a i v

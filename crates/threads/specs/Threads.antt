@@ -2,11 +2,11 @@
 -- lists off pointers, and `Sound` says that the two agree. Document 01: "Task and request blocks carry a forward and a back pointer for the
 -- queue they are on."
 use mathlib.Core.Path.{_≡_}
-use mathlib.Core.List.{List, [], _∷_, _++_, map}
+use mathlib.Core.List.{List, [], _∷_, map}
 use Prim.Native.Nat.{ℕ, zero, suc, _+_, _≤_, _<_}
 use lib.ListN.{length, getD}
 use lib.Dec.{eqb}
-use Rattle.words.specs.Words.{if_then_else_}
+use Rattle.words.specs.Words.{if_then_else_, _among_}
 use Rattle.threads.specs.declared.Threads.{Threads}
 
 -- how many queues and how many blocks. The blocks are 1 to BLOCKS, and 0 is no block
@@ -38,10 +38,10 @@ unfoldable pub before : ℕ → List ℕ → ℕ → ℕ
 before p [] y = 0
 before p (a ∷ l) y = if eqb a y then p else before a l y
 
--- the lists in a row, a 0 after each: so 0 stands before the first of each and after its last
-unfoldable pub flat : List (List ℕ) → List ℕ
-flat [] = []
-flat (l ∷ ls) = l ++ 0 ∷ flat ls
+-- the list that y is in; none where it is in none
+unfoldable pub listOf : ℕ → List (List ℕ) → List ℕ
+listOf y [] = []
+listOf y (l ∷ ls) = if y among l then l else listOf y ls
 
 -- f 0, .., f (n - 1); and an array with a cell for each block, f y at the block y, and 0 at 0
 unfoldable pub tab : ℕ → (ℕ → ℕ) → List ℕ
@@ -51,11 +51,12 @@ tab (suc n) f = f 0 ∷ tab n (λ i. f (suc i))
 unfoldable pub row : (ℕ → ℕ) → List ℕ
 row f = 0 ∷ tab BLOCKS (λ y. f (suc y))
 
+-- the pointers of lists: of each block, the one behind it and the one before it in the list that it is in; of each list, its first and its last
 unfoldable pub threaded : List (List ℕ) → Threads
 threaded ls =
     record {
-      fwd = row (after (flat ls));
-      back = row (before 0 (flat ls));
+      fwd = row (λ y. after (listOf y ls) y);
+      back = row (λ y. before 0 (listOf y ls) y);
       first = map hd ls;
       last = map (lst 0) ls;
     }

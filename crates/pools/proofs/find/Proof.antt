@@ -20,7 +20,7 @@ returns c =
 returns-2 : tie.Need-returns-2
 returns-2 c =
     let s = c .before .before in
-    sym (found-nowhere (s .args .granted) (s .args .n) (start-of-many (s .args .granted) (s .args .n) (search needs) (search needs)))
+    sym (found-nowhere (s .args .granted) (s .args .n) (start-of-many (s .args .granted) (s .args .n) (search needs)))
 
 free-starts-requires : tie.Need-free-starts-requires
 free-starts-requires c κs = search needs

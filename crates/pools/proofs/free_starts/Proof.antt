@@ -15,7 +15,7 @@ abbrev μ-loop : tie.MeasureT-loop
 μ-loop granted n found₀ length₀ found length = n - length
 
 loop-holds : tie.Need-loop-holds Inv-loop μ-loop
-loop-holds c = searching-start (c .args .granted) (c .args .n) (c .pre .0)
+loop-holds c = searching-start (c .args .granted) (c .args .n) (search needs) (c .pre .0)
 
 sub-more : tie.Need-sub-more Inv-loop μ-loop
 sub-more c = search needs
@@ -32,7 +32,7 @@ loop-less c = ⊎-elim (λ w. omega arith) (λ w. omega arith) (c .before .if1 .
 loop-again : tie.Need-loop-again Inv-loop μ-loop
 loop-again c =
     let s = c .before .before .before in
-    searching-next (s .loop .inv) (c .before .if1 .more) (search needs)
+    searching-next (s .loop .inv) (c .before .if1 .more)
     (⊎-elim (λ w. omega arith) (λ w. omega arith) (c .before .if1 .came))
     (⊎-elim (λ w. omega arith) (λ w. omega arith) (c .before .if1 .came))
 

@@ -3,7 +3,7 @@ use mathlib.Core.Path.{ap, _∙_}
 use Prim.Native.Nat.{ℕ}
 use borrow.Author.Needs.{needs}
 use borrow.Author.Tests.{eq-eqb}
-use Rattle.words.specs.Words.{lowest}
+use Rattle.words.specs.Words.{below, allOf, lowest}
 use Rattle.pools.specs.Pools.{freeAt, startOf}
 use Rattle.pools.specs.Find.{startIn, foundOf}
 use Rattle.pools_demo.proofs.apart.Statement.{statement}
@@ -19,7 +19,7 @@ start-requires : tie.Need-start-requires
 start-requires c κs = search needs
 
 expect-requires : tie.Need-expect-requires
-unfolding foundOf startOf freeAt lowest
+unfolding foundOf startOf freeAt below allOf lowest
 expect-requires c κs =
     eq-eqb (c .start .result) 64
     (c .start .ensures ∙ ap startIn (c .before .find .ensures ∙ ap (λ (g : ℕ). foundOf g 60) (c .before .before .mask .ensures)))

@@ -3,7 +3,7 @@ use mathlib.Core.Path.{ap, _∙_}
 use Prim.Native.Nat.{ℕ}
 use borrow.Author.Needs.{needs}
 use borrow.Author.Tests.{eq-eqb}
-use Rattle.words.specs.Words.{lowest}
+use Rattle.words.specs.Words.{below, allOf, lowest}
 use Rattle.pools.specs.Pools.{freeAt, startOf}
 use Rattle.pools.specs.Find.{startIn, foundOf}
 use Rattle.pools_demo.proofs.either_side.Statement.{statement}
@@ -19,7 +19,7 @@ start-requires : tie.Need-start-requires
 start-requires c κs = search needs
 
 expect-requires : tie.Need-expect-requires
-unfolding foundOf startOf freeAt lowest
+unfolding foundOf startOf freeAt below allOf lowest
 expect-requires c κs =
     eq-eqb (c .start .result) 0
     (c .start .ensures ∙ ap startIn (c .before .find .ensures ∙ ap (λ (g : ℕ). foundOf g 60) (c .before .before .mask .ensures)))
@@ -31,7 +31,7 @@ start-requires-2 : tie.Need-start-requires-2
 start-requires-2 c κs = search needs
 
 expect-requires-2 : tie.Need-expect-requires-2
-unfolding foundOf startOf freeAt lowest
+unfolding foundOf startOf freeAt below allOf lowest
 expect-requires-2 c κs =
     eq-eqb (c .start2 .result) 64
     (c .start2 .ensures ∙ ap startIn (c .before .find2 .ensures ∙ ap (λ (g : ℕ). foundOf g 61) (c .before .before .before .before .before .mask .ensures)))

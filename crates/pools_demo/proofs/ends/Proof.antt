@@ -2,7 +2,7 @@
 use mathlib.Core.Path.{ap, _∙_}
 use borrow.Author.Needs.{needs}
 use borrow.Author.Tests.{eq-eqb}
-use Rattle.words.specs.Words.{lowest}
+use Rattle.words.specs.Words.{below, allOf, lowest}
 use Rattle.pools.specs.Pools.{freeAt, startOf}
 use Rattle.pools.specs.Find.{startIn, foundOf}
 use Rattle.pools_demo.proofs.ends.Statement.{statement}
@@ -15,7 +15,7 @@ start-requires : tie.Need-start-requires
 start-requires c κs = search needs
 
 expect-requires : tie.Need-expect-requires
-unfolding foundOf startOf freeAt lowest
+unfolding foundOf startOf freeAt below allOf lowest
 expect-requires c κs = eq-eqb (c .start .result) 0 (c .start .ensures ∙ ap startIn (c .before .find .ensures))
 
 find-requires-2 : tie.Need-find-requires-2
@@ -25,7 +25,7 @@ start-requires-2 : tie.Need-start-requires-2
 start-requires-2 c κs = search needs
 
 expect-requires-2 : tie.Need-expect-requires-2
-unfolding foundOf startOf freeAt lowest
+unfolding foundOf startOf freeAt below allOf lowest
 expect-requires-2 c κs = eq-eqb (c .start2 .result) 0 (c .start2 .ensures ∙ ap startIn (c .before .find2 .ensures))
 
 find-requires-3 : tie.Need-find-requires-3
@@ -35,7 +35,7 @@ start-requires-3 : tie.Need-start-requires-3
 start-requires-3 c κs = search needs
 
 expect-requires-3 : tie.Need-expect-requires-3
-unfolding foundOf startOf freeAt lowest
+unfolding foundOf startOf freeAt below allOf lowest
 expect-requires-3 c κs = eq-eqb (c .start3 .result) 64 (c .start3 .ensures ∙ ap startIn (c .before .find3 .ensures))
 
 mask-requires : tie.Need-mask-requires

@@ -3,7 +3,7 @@ use mathlib.Core.Path.{refl}
 use native.Mathlib.Omega.{arith}
 use borrow.Author.Needs.{needs}
 use borrow.Author.Tests.{eq-eqb}
-use Rattle.words.specs.Words.{lowest}
+use Rattle.words.specs.Words.{below, allOf, lowest}
 use Rattle.pools.specs.Pools.{freeAt, startOf}
 use Rattle.pools.specs.Runs.{heldAt}
 use Rattle.pools.specs.Find.{foundOf}
@@ -14,25 +14,25 @@ taken-requires : tie.Need-taken-requires
 taken-requires c κs = search needs
 
 expect-requires : tie.Need-expect-requires
-unfolding foundOf startOf freeAt lowest
+unfolding foundOf startOf freeAt below allOf lowest
 expect-requires c κs = eq-eqb (c .taken .result) 1099511627775 (c .taken .ensures)
 
 taken-requires-2 : tie.Need-taken-requires-2
 taken-requires-2 c κs = search needs
 
 expect-requires-2 : tie.Need-expect-requires-2
-unfolding foundOf startOf freeAt lowest
+unfolding foundOf startOf freeAt below allOf lowest
 expect-requires-2 c κs = eq-eqb (c .taken2 .result) 1152921504606846975 (c .taken2 .ensures)
 
 taken-requires-3 : tie.Need-taken-requires-3
 taken-requires-3 c κs = search needs
 
 expect-requires-3 : tie.Need-expect-requires-3
-unfolding foundOf startOf freeAt lowest
+unfolding foundOf startOf freeAt below allOf lowest
 expect-requires-3 c κs = eq-eqb (c .taken3 .result) 1152921504606846975 (c .taken3 .ensures)
 
 give-back-requires : tie.Need-give-back-requires
-unfolding heldAt
+unfolding heldAt below allOf
 give-back-requires c κs = record { inside = omega arith; held = refl }
 
 expect-requires-4 : tie.Need-expect-requires-4
@@ -42,7 +42,7 @@ taken-requires-4 : tie.Need-taken-requires-4
 taken-requires-4 c κs = search needs
 
 expect-requires-5 : tie.Need-expect-requires-5
-unfolding foundOf startOf freeAt lowest
+unfolding foundOf startOf freeAt below allOf lowest
 expect-requires-5 c κs = eq-eqb (c .taken4 .result) 1152920405111996415 (c .taken4 .ensures)
 
 returns : tie.Need-returns

@@ -15,7 +15,7 @@ enum-known-a c = search needs
 grant-requires : tie.Need-grant-requires
 grant-requires c κs =
     let s = c .before .before .before .before in
-    found-run (s .args .granted) (s .args .n) _ (search needs) (sym (c .before .before .before .find .ensures) ∙ c .before .a .given .1)
+    found-run (s .args .granted) (s .args .n) _ (sym (c .before .before .before .find .ensures) ∙ c .before .a .given .1)
 
 enum-told : tie.Need-enum-told
 enum-told c = search needs
