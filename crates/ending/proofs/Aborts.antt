@@ -1,11 +1,12 @@
 -- What the abort leaves after each of its steps: the task that lost its link can end, alone or beside its parent, which is in LINK; and then the parent
--- is the one in hand. And what is aborted, step by step.
-use mathlib.Core.Path.{_≡_, refl, ap}
+-- is the one in hand. And what is aborted, step by step; and a step as the code takes it.
+use mathlib.Core.Path.{_≡_, refl, sym, ap, subst, _∙_}
 use mathlib.Core.Logic.{_≢_, ⊎-elim}
 use mathlib.Core.List.{[], _∷_}
-use Prim.Native.Nat.{ℕ, zero, suc, _-_, _≤_}
+use Prim.Native.Nat.{ℕ, zero, suc, _-_, _^_, _≤_, _<_}
 use native.Mathlib.Omega.{arith}
 use borrow.Author.Tests.{ne-eqb}
+use Rattle.threads.specs.Threads.{Sound}
 use Rattle.threads.proofs.Lists.{tested}
 use Rattle.tables.specs.declared.Tables.{Tables}
 use Rattle.tables.specs.State.{State, taskAt, read}
@@ -17,6 +18,7 @@ use Rattle.lawful.specs.Resting.{Aborting}
 use Rattle.lawful.proofs.Finish.{grab, parent-low, parent-links}
 use Rattle.lawful.proofs.Unlink.{unlink-rest}
 use Rattle.lawful.proofs.Abort.{aborted-none, alone, child, abort-next}
+use Rattle.ending.specs.declared.abort.Gone.{Gone}
 use Rattle.ending.specs.Ending.{Finishing}
 use Rattle.ending.proofs.Shown.{then}
 
@@ -78,3 +80,31 @@ module _ {n k : ℕ} {s : State} (a : Aborting n k s) where
 
     pub abort-further : {r : Tables} → Shows r (aborted (n - 1) p (read u)) → Shows r (aborted n k s)
     abort-further e = rw (aborted-step n a) (then (aborted (n - 1) p) w e)
+
+-- ---- A step as the code takes it: what it asks, what it returns, and what is told at the end.
+abbrev pub Asked : Tables → ℕ → ℕ → Type 0
+Asked t k n = Sound (t .threads) × Aborting n k (read t)
+
+abbrev pub Stepped : Tables → ℕ → Gone → Type 0
+Stepped t k g = Shows (g .tables) (ended (unlinked (read t) k) k) × (g .parent ≡ taskAt (read t) k .parent)
+
+abbrev pub Told : Tables → ℕ → ℕ → Tables → Type 0
+Told t k n r = Shows r (aborted n k (read t))
+
+module _ {t : Tables} {k n : ℕ} (a : Asked t k n) {g : Gone} (e : Stepped t k g) where
+  -- with no parent the abort is done
+  pub step-last : g .parent ≡ 0 → Told t k n (g .tables)
+  step-last z = abort-last (a .1) (e .0) (sym (e .1) ∙ z)
+
+  -- with one it goes on, with less left of the chain
+  pub step-asks : g .parent ≢ 0 → Asked (g .tables) (g .parent) (n - 1)
+  step-asks z = (e .0 .sound, rw (e .1) (abort-parent (a .1) (e .0) (λ i. z (e .1 ∙ i))))
+
+  pub step-tells : (r : Tables) → Told (g .tables) (g .parent) (n - 1) r → Told t k n r
+  step-tells r f = abort-further (a .1) (e .0) (subst (λ (p : ℕ). Shows r (aborted (n - 1) p (read (g .tables)))) (e .1) f)
+
+  pub step-falls : n - 1 < n
+  step-falls = omega (arith, abort-left n (a .1))
+
+  pub step-fits : n < 2 ^ 8 → n - 1 < 2 ^ 8
+  step-fits f = omega (arith, f)

@@ -67,7 +67,7 @@ use Rattle.desk.specs.declared.Taken.{Taken}
 use Rattle.desk.proofs.Taken as K
 use Rattle.desk.proofs.Taken.Laws as K′
 use Rattle.desk.proofs.Bytes.{vA, tyA, firsts, Left, lends-bytes, bytes-back}
-use Rattle.desk.proofs.Lies.{vT, lies-in, lies-out}
+use Rattle.tables.proofs.Lies.{vT, lies-in, lies-out}
 use Rattle.desk.proofs.take as take
 use Rattle.desk.proofs.take.Symbol as take-def
 use Rattle.desk.proofs.take.Symbol.{name as #desk·take}
