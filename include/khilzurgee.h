@@ -41,7 +41,7 @@ enum khilzurgee_answer {
     KHILZURGEE_BAD_CHECK = 2,   /* bytes 510-511 are not the check of the rest */
     KHILZURGEE_BAD_FORM = 3,    /* byte 0 is not 1 */
     KHILZURGEE_BAD_MODULES = 4, /* M is not 1 to 32 */
-    KHILZURGEE_BAD_CYCLES = 5,  /* N is 0 */
+    KHILZURGEE_BAD_CYCLES = 5,  /* N is not 1 to 255 */
     KHILZURGEE_BAD_ENTRY = 6,   /* a used entry, 0 to M-1, has a bad level,
                                    units or flags */
     KHILZURGEE_NOT_ZERO = 7     /* a byte that has to be zero is not: 3-7,
@@ -67,15 +67,31 @@ uint8_t khilzurgee_image_check(const uint8_t *bytes, size_t length);
 
 /* ---- the tables
 
-   One set of tables is the whole state of an executive: 1,144 bytes, no
-   pointer in them, so they can be copied, stored and compared. A caller owns
-   them; nothing is kept anywhere else. They are declared so that a station can
-   look into them; only the two functions below should change them.
+   One set of tables is the whole state of an executive. A caller owns them;
+   nothing is kept anywhere else. They are declared so that a station can look
+   into them; only the two functions below should change them.
+
+   They are 1,128 bytes, and every byte is a field's: no pointer, and no byte
+   between two fields or behind the last. So they can be copied, stored and
+   compared as bytes: equal tables are equal bytes (memcmp). The fields have to
+   be aligned to 8, as the compiler aligns every object of this type. Bytes
+   that lie elsewhere, as in a buffer that was read from a file, are copied into
+   such an object (memcpy) first: the functions take for granted that the
+   address can be divided by 8.
+
+   Stored tables are the bytes of this struct, on a little-endian machine. Keep
+   KHILZURGEE_TABLES_VERSION beside them, and read back none of another version:
+   it changes with the layout. Nothing else need be checked, for the tables may
+   hold anything.
 
    Block 0 names no block, level 0 no level: slot 0 of 'tasks', 'requests' and
-   'pools' is not used. */
+   'pools' is not used, and is zero. */
+
+/* The form of stored tables. */
+#define KHILZURGEE_TABLES_VERSION 1
 
 enum {
+    KHILZURGEE_TABLES_LENGTH = 1128,
     KHILZURGEE_CALL_LENGTH = 16,
     KHILZURGEE_MODULES = 32,
     KHILZURGEE_TASKS = 24,
@@ -86,30 +102,30 @@ enum {
 
 /* A module, as in the image. */
 struct khilzurgee_entry {
-    uint8_t level; /* 1 (best) to 3 */
-    uint8_t units; /* of core, 0 to 64 */
-    uint8_t flags; /* 1 is reentrant */
+    uint8_t level;  /* 1 (best) to 3 */
+    uint8_t units;  /* of core, 0 to 64 */
+    uint16_t flags; /* 1 is reentrant */
     uint32_t point;
 };
 
 struct khilzurgee_directory {
-    uint8_t modules;  /* M */
-    uint8_t every;    /* N */
     uint64_t defined; /* bit e for event e */
     struct khilzurgee_entry entries[KHILZURGEE_MODULES];
+    uint32_t modules; /* M */
+    uint32_t every;   /* N */
 };
 
 struct khilzurgee_task {
-    uint8_t place;   /* 0 free, 1 running, 2 ready, 3 core queue, 4 event queue,
-                        5 time queue, 6 in LINK, 7 in CHECK, 8 ending */
-    uint8_t program; /* the number of its module */
+    uint64_t events;  /* and 'count' of them: the condition of an event waiter */
+    uint32_t time;    /* the condition of a time waiter */
+    uint32_t count;
+    uint16_t program; /* the number of its module */
+    uint16_t request; /* what a task in CHECK waits for */
+    uint8_t place;    /* 0 free, 1 running, 2 ready, 3 core queue, 4 event queue,
+                         5 time queue, 6 in LINK, 7 in CHECK, 8 ending */
     uint8_t parent;
-    uint8_t core;    /* 0 not granted, 1 holds its run, 2 given back */
-    uint8_t start;   /* of its run */
-    uint8_t count;   /* and 'events': the condition of an event waiter */
-    uint64_t events;
-    uint32_t time;   /* the condition of a time waiter */
-    uint8_t request; /* what a task in CHECK waits for */
+    uint8_t core;     /* 0 not granted, 1 holds its run, 2 given back */
+    uint8_t start;    /* of its run */
 };
 
 struct khilzurgee_request {
@@ -132,15 +148,15 @@ struct khilzurgee_threads {
 
 struct khilzurgee_tables {
     struct khilzurgee_directory directory;
-    uint32_t clock;
-    uint64_t on;     /* the events that are on */
-    uint8_t running; /* the running task, 0 if idle */
-    uint8_t channel; /* the request on the channel, 0 if none */
-    uint32_t idle;   /* the free task blocks, bit k for block k */
-    uint32_t spare;  /* the free request blocks */
+    uint64_t on; /* the events that are on */
     uint64_t pools[KHILZURGEE_LEVELS + 1]; /* the granted units of each level */
     struct khilzurgee_task tasks[KHILZURGEE_TASKS + 1];
+    uint32_t clock;
+    uint32_t free_tasks;    /* the free task blocks, bit k for block k */
+    uint32_t free_requests; /* the free request blocks */
     struct khilzurgee_request requests[KHILZURGEE_REQUESTS + 1];
+    uint8_t running; /* the running task, 0 if idle */
+    uint8_t channel; /* the request on the channel, 0 if none */
     struct khilzurgee_threads threads;
 };
 
@@ -151,78 +167,93 @@ struct khilzurgee_line {
     uint8_t running; /* the running task afterwards, 0 if idle */
 };
 
-/* The layout that the library has, and that this compiler has to give. */
+/* The layout that the library has, and that this compiler has to give. Each
+   field begins where the one before it ends, and the struct ends where its last
+   field does: so no byte is left between them. */
 #ifdef __cplusplus
 #define KHILZURGEE_IS(a, b) static_assert((a) == (b), #a " is not " #b)
 #else
 #define KHILZURGEE_IS(a, b) _Static_assert((a) == (b), #a " is not " #b)
 #endif
-#define KHILZURGEE_AT(s, field, at) KHILZURGEE_IS(offsetof(struct s, field), at)
+#define KHILZURGEE_END(s, field) \
+    (offsetof(struct s, field) + sizeof(((struct s *)0)->field))
+#define KHILZURGEE_FIRST(s, field) KHILZURGEE_IS(offsetof(struct s, field), 0)
+#define KHILZURGEE_NEXT(s, before, field, at)                        \
+    KHILZURGEE_IS(offsetof(struct s, field), at);                    \
+    KHILZURGEE_IS(offsetof(struct s, field), KHILZURGEE_END(s, before))
+#define KHILZURGEE_LAST(s, field, size)                              \
+    KHILZURGEE_IS(sizeof(struct s), size);                           \
+    KHILZURGEE_IS(sizeof(struct s), KHILZURGEE_END(s, field))
 
-KHILZURGEE_IS(sizeof(struct khilzurgee_entry), 8);
-KHILZURGEE_AT(khilzurgee_entry, level, 0);
-KHILZURGEE_AT(khilzurgee_entry, units, 1);
-KHILZURGEE_AT(khilzurgee_entry, flags, 2);
-KHILZURGEE_AT(khilzurgee_entry, point, 4);
+KHILZURGEE_FIRST(khilzurgee_entry, level);
+KHILZURGEE_NEXT(khilzurgee_entry, level, units, 1);
+KHILZURGEE_NEXT(khilzurgee_entry, units, flags, 2);
+KHILZURGEE_NEXT(khilzurgee_entry, flags, point, 4);
+KHILZURGEE_LAST(khilzurgee_entry, point, 8);
 
-KHILZURGEE_IS(sizeof(struct khilzurgee_directory), 272);
-KHILZURGEE_AT(khilzurgee_directory, modules, 0);
-KHILZURGEE_AT(khilzurgee_directory, every, 1);
-KHILZURGEE_AT(khilzurgee_directory, defined, 8);
-KHILZURGEE_AT(khilzurgee_directory, entries, 16);
+KHILZURGEE_FIRST(khilzurgee_directory, defined);
+KHILZURGEE_NEXT(khilzurgee_directory, defined, entries, 8);
+KHILZURGEE_NEXT(khilzurgee_directory, entries, modules, 264);
+KHILZURGEE_NEXT(khilzurgee_directory, modules, every, 268);
+KHILZURGEE_LAST(khilzurgee_directory, every, 272);
 
-KHILZURGEE_IS(sizeof(struct khilzurgee_task), 24);
-KHILZURGEE_AT(khilzurgee_task, place, 0);
-KHILZURGEE_AT(khilzurgee_task, program, 1);
-KHILZURGEE_AT(khilzurgee_task, parent, 2);
-KHILZURGEE_AT(khilzurgee_task, core, 3);
-KHILZURGEE_AT(khilzurgee_task, start, 4);
-KHILZURGEE_AT(khilzurgee_task, count, 5);
-KHILZURGEE_AT(khilzurgee_task, events, 8);
-KHILZURGEE_AT(khilzurgee_task, time, 16);
-KHILZURGEE_AT(khilzurgee_task, request, 20);
+KHILZURGEE_FIRST(khilzurgee_task, events);
+KHILZURGEE_NEXT(khilzurgee_task, events, time, 8);
+KHILZURGEE_NEXT(khilzurgee_task, time, count, 12);
+KHILZURGEE_NEXT(khilzurgee_task, count, program, 16);
+KHILZURGEE_NEXT(khilzurgee_task, program, request, 18);
+KHILZURGEE_NEXT(khilzurgee_task, request, place, 20);
+KHILZURGEE_NEXT(khilzurgee_task, place, parent, 21);
+KHILZURGEE_NEXT(khilzurgee_task, parent, core, 22);
+KHILZURGEE_NEXT(khilzurgee_task, core, start, 23);
+KHILZURGEE_LAST(khilzurgee_task, start, 24);
 
-KHILZURGEE_IS(sizeof(struct khilzurgee_request), 6);
-KHILZURGEE_AT(khilzurgee_request, place, 0);
-KHILZURGEE_AT(khilzurgee_request, owner, 1);
-KHILZURGEE_AT(khilzurgee_request, device, 2);
-KHILZURGEE_AT(khilzurgee_request, command, 3);
-KHILZURGEE_AT(khilzurgee_request, bytes, 4);
+KHILZURGEE_FIRST(khilzurgee_request, place);
+KHILZURGEE_NEXT(khilzurgee_request, place, owner, 1);
+KHILZURGEE_NEXT(khilzurgee_request, owner, device, 2);
+KHILZURGEE_NEXT(khilzurgee_request, device, command, 3);
+KHILZURGEE_NEXT(khilzurgee_request, command, bytes, 4);
+KHILZURGEE_LAST(khilzurgee_request, bytes, 6);
 
-KHILZURGEE_IS(sizeof(struct khilzurgee_threads), 100);
-KHILZURGEE_AT(khilzurgee_threads, fwd, 0);
-KHILZURGEE_AT(khilzurgee_threads, back, 41);
-KHILZURGEE_AT(khilzurgee_threads, first, 82);
-KHILZURGEE_AT(khilzurgee_threads, last, 91);
+KHILZURGEE_FIRST(khilzurgee_threads, fwd);
+KHILZURGEE_NEXT(khilzurgee_threads, fwd, back, 41);
+KHILZURGEE_NEXT(khilzurgee_threads, back, first, 82);
+KHILZURGEE_NEXT(khilzurgee_threads, first, last, 91);
+KHILZURGEE_LAST(khilzurgee_threads, last, 100);
 
-KHILZURGEE_IS(sizeof(struct khilzurgee_tables), 1144);
-KHILZURGEE_AT(khilzurgee_tables, directory, 0);
-KHILZURGEE_AT(khilzurgee_tables, clock, 272);
-KHILZURGEE_AT(khilzurgee_tables, on, 280);
-KHILZURGEE_AT(khilzurgee_tables, running, 288);
-KHILZURGEE_AT(khilzurgee_tables, channel, 289);
-KHILZURGEE_AT(khilzurgee_tables, idle, 292);
-KHILZURGEE_AT(khilzurgee_tables, spare, 296);
-KHILZURGEE_AT(khilzurgee_tables, pools, 304);
-KHILZURGEE_AT(khilzurgee_tables, tasks, 336);
-KHILZURGEE_AT(khilzurgee_tables, requests, 936);
-KHILZURGEE_AT(khilzurgee_tables, threads, 1038);
+KHILZURGEE_FIRST(khilzurgee_tables, directory);
+KHILZURGEE_NEXT(khilzurgee_tables, directory, on, 272);
+KHILZURGEE_NEXT(khilzurgee_tables, on, pools, 280);
+KHILZURGEE_NEXT(khilzurgee_tables, pools, tasks, 312);
+KHILZURGEE_NEXT(khilzurgee_tables, tasks, clock, 912);
+KHILZURGEE_NEXT(khilzurgee_tables, clock, free_tasks, 916);
+KHILZURGEE_NEXT(khilzurgee_tables, free_tasks, free_requests, 920);
+KHILZURGEE_NEXT(khilzurgee_tables, free_requests, requests, 924);
+KHILZURGEE_NEXT(khilzurgee_tables, requests, running, 1026);
+KHILZURGEE_NEXT(khilzurgee_tables, running, channel, 1027);
+KHILZURGEE_NEXT(khilzurgee_tables, channel, threads, 1028);
+KHILZURGEE_LAST(khilzurgee_tables, threads, KHILZURGEE_TABLES_LENGTH);
 
-KHILZURGEE_IS(sizeof(struct khilzurgee_line), 3);
-KHILZURGEE_AT(khilzurgee_line, refusal, 0);
-KHILZURGEE_AT(khilzurgee_line, result, 1);
-KHILZURGEE_AT(khilzurgee_line, running, 2);
+KHILZURGEE_FIRST(khilzurgee_line, refusal);
+KHILZURGEE_NEXT(khilzurgee_line, refusal, result, 1);
+KHILZURGEE_NEXT(khilzurgee_line, result, running, 2);
+KHILZURGEE_LAST(khilzurgee_line, running, 3);
 
-#undef KHILZURGEE_AT
+#undef KHILZURGEE_LAST
+#undef KHILZURGEE_NEXT
+#undef KHILZURGEE_FIRST
+#undef KHILZURGEE_END
 #undef KHILZURGEE_IS
 
 /* Loads an image into the caller's tables, whatever they held before, and
    answers refusal, M or 0, 0. The refusal is the number that the image check
    answers. Where it is 0 the tables are the loaded ones: the image's directory,
-   no tasks, all events off, clock 0. Where it is not they are all zero, and
-   every call on them is refused by 9.
+   no tasks, all events off, clock 0. Where it is not they are all zero, to the
+   last byte, and every call on them is refused by 9. Either way no byte of what
+   they held is left.
 
-   tables   where the tables lie; what they hold does not matter. Not NULL.
+   tables   where the tables lie; what they hold does not matter. Not NULL, and
+            aligned to 8.
    image    the bytes, 'length' of them, as for the image check. They are not to
             lie within the tables.
 
@@ -234,12 +265,12 @@ struct khilzurgee_line khilzurgee_load(struct khilzurgee_tables *tables,
 
 /* Answers one call, and leaves in the tables what they are after it. The answer
    is the three numbers of the desk's line. A refused call has result 0 and
-   leaves every field as it was. The tables may hold anything: where they break
+   leaves every byte as it was. The tables may hold anything: where they break
    the table rules, as they never do after an accepted load and calls alone, the
    answer is 9 0 0. So a caller that stored its tables and read them back need
    not check them.
 
-   tables   where the tables lie. Not NULL.
+   tables   where the tables lie. Not NULL, and aligned to 8.
    call     the bytes of the call, 'length' of them: exactly 16, or the answer
             is 10. Not NULL, not even with length 0, and not within the tables.
 

@@ -78,8 +78,8 @@ static void after_load(const struct khilzurgee_tables *t)
     IS(t->directory.entries[0].point, 0x12345678u);
     IS(t->directory.entries[1].level, 3);
     IS(t->directory.entries[1].point, 7);
-    IS(t->idle, 0x1fffffeu);
-    IS(t->spare, 0x1fffeu);
+    IS(t->free_tasks, 0x1fffffeu);
+    IS(t->free_requests, 0x1fffeu);
     IS(t->clock, 0);
     IS(t->running, 0);
 }
@@ -107,8 +107,8 @@ static void after_calls(struct khilzurgee_tables *t)
     IS(t->on, 0x8000000000000000u);
     IS(t->running, 5);
     IS(t->channel, 1);
-    IS(t->idle, 0x1ffff80u);
-    IS(t->spare, 0x1fff8u);
+    IS(t->free_tasks, 0x1ffff80u);
+    IS(t->free_requests, 0x1fff8u);
     IS(t->pools[2], 0xfffffffffffffffu);
     IS(t->tasks[1].place, 6);
     IS(t->tasks[1].program, 1);

@@ -24,15 +24,15 @@ fn new_task(program: u8, parent: u8) -> Task
     ensures { λ r. ⌜ r ≡ newTask program parent ⌝ }
 {
     Task {
+        events: 0,
+        time: 0,
+        count: 0,
+        program: program as u16,
+        request: 0,
         place: 0,
-        program: program,
         parent: parent,
         core: 0,
         start: 0,
-        count: 0,
-        events: 0,
-        time: 0,
-        request: 0,
     }
 }
 

@@ -20,7 +20,7 @@ fn awaiting(task: Task, r: u8) -> Task
     x.count = 0;
     x.events = 0;
     x.time = 0;
-    x.request = r;
+    x.request = r as u16;
     x
 }
 

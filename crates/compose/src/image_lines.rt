@@ -48,7 +48,7 @@ pub fn every(line: &[u8], s: Scan, mut d: Directory) -> Described
     ensures { λ r. ⌜ Describes (now (line .entry)) (withEvery d (r .directory .every)) r ⌝ }
 {
     let n = scan::number(line, s, 255);
-    d.every = n.value as u8;
+    d.every = n.value as u32;
     Described {
         directory: d,
         scan: scan::end(line, n),
@@ -106,7 +106,7 @@ fn one_module(line: &[u8], s: Scan, d: Directory) -> Described
     let found = Entry {
         level: level.value as u8,
         units: units.value as u8,
-        flags: flags.value as u8,
+        flags: flags.value as u16,
         point: entry.value as u32,
     };
     Described {

@@ -82,11 +82,10 @@ fn waiter_right(defined: u64, on: u64, x: Task) -> bool
     if x.place != 4 {
         return true;
     }
-    let count = x.count as u32;
     (x.events & defined == x.events)
         & (1 <= x.count)
-        & (count <= sets64::ones(x.events))
-        & !(count <= sets64::ones(x.events & on))
+        & (x.count <= sets64::ones(x.events))
+        & !(x.count <= sets64::ones(x.events & on))
 }
 
 // The task waits for no events, no time and no request.
@@ -130,13 +129,13 @@ fn own_right(defined: u64, on: u64, told: Told, x: Task) -> bool
 }
 
 // A used block keeps what is asked in every place, and what its own place asks.
-pub fn used_right(modules: u8, defined: u64, on: u64, told: Told, x: Task) -> bool
+pub fn used_right(modules: u32, defined: u64, on: u64, told: Told, x: Task) -> bool
     requires { ⌜ x .place ≢ 0 ⌝ }
     ensures { λ r. ⌜ r ≡ (fieldsRight modules (told .units) x && placeRight (told .stands) (told .level) (told .runs) (told .free) x && waiterRight defined on x && pendingRight (told .own) (told .pends) x) ⌝ }
 {
     (x.parent <= 24)
         & (x.core <= 2)
-        & (x.program < modules)
+        & ((x.program as u32) < modules)
         & core_right(told.units, x)
         & place_right(told.stands, told.level, told.runs, told.free, x)
         & own_right(defined, on, told, x)

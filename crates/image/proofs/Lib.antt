@@ -2,6 +2,7 @@ pub mod Weights
 pub mod Cases
 pub mod Loads
 pub mod Writes
+pub mod Small
 pub mod Table
 pub mod Clear
 pub mod WrittenBack

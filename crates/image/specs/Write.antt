@@ -1,7 +1,7 @@
 -- Document 01, 'Phase image': writing. "Writing takes a directory and a lent buffer."
 use mathlib.Core.Bool.{not}
 use mathlib.Core.List.{List, _∷_, _++_, map}
-use Prim.Native.Nat.{ℕ, _+_, _-_, _/_, _%_}
+use Prim.Native.Nat.{ℕ, _+_, _-_, _/_, _%_, _<_}
 use lib.ListN.{length}
 use lib.Dec.{eqb, ltb}
 use Rattle.words.specs.Words.{if_then_else_, below}
@@ -13,6 +13,12 @@ use Rattle.image.specs.declared.Directory.{Directory}
 use Rattle.image.specs.Answer.{outcomeOf}
 use Rattle.image.specs.Block.{checkOf}
 use Rattle.image.specs.Directory.{entryAt, directoryRows}
+
+-- the fields that have one byte in an image fit one, as those of a directory that passes do
+pub record Small (d : Directory) : Type 0 where
+  pub modules : d .modules < 256
+  pub every : d .every < 256
+  pub flags : (m : ℕ) → m < 32 → entryAt d m .flags < 256
 
 -- "level, core units .., flags .., zero, entry point in 4 bytes": byte j of an entry
 unfoldable pub entryByte : Entry → ℕ → ℕ

@@ -3,11 +3,11 @@ use crate::Directory;
 use crate::Entry;
 ghost use mathlib.Core.Path.{_≡_};
 ghost use Prim.Native.Nat.{_<_};
-ghost use Rattle.image.specs.Write.{entryByte, byteOf, imageOf};
+ghost use Rattle.image.specs.Write.{Small, entryByte, byteOf, imageOf};
 
 // Byte j of an entry.
 fn entry_byte(e: Entry, j: usize) -> u8
-    requires { ⌜ j < 8 ⌝ }
+    requires { ⌜ (j < 8) × (e .flags < 256) ⌝ }
     ensures { λ r. ⌜ r ≡ entryByte e j ⌝ }
 {
     if j == 0 {
@@ -17,7 +17,7 @@ fn entry_byte(e: Entry, j: usize) -> u8
         return e.units;
     }
     if j == 2 {
-        return e.flags;
+        return e.flags as u8;
     }
     if j == 3 {
         return 0;
@@ -27,17 +27,17 @@ fn entry_byte(e: Entry, j: usize) -> u8
 
 // Byte i of a directory's image, below the check.
 fn byte(d: Directory, i: usize) -> u8
-    requires { ⌜ i < 510 ⌝ }
+    requires { ⌜ (i < 510) × Small d ⌝ }
     ensures { λ r. ⌜ r ≡ byteOf d i ⌝ }
 {
     if i == 0 {
         return 1;
     }
     if i == 1 {
-        return d.modules;
+        return d.modules as u8;
     }
     if i == 2 {
-        return d.every;
+        return d.every as u8;
     }
     if i < 8 {
         return 0;
@@ -53,6 +53,7 @@ fn byte(d: Directory, i: usize) -> u8
 
 // The image of a directory.
 pub fn image(d: Directory) -> [u8; 512]
+    requires { ⌜ Small d ⌝ }
     ensures { λ r. ⌜ r ≡ imageOf d ⌝ }
 {
     let mut out = [0u8; 512];

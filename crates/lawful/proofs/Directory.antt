@@ -42,7 +42,7 @@ module _ (d : Directory) (e : directoryPasses d ≡ true) where
       record {
         passes = e;
         modules = leb-true (d .modules) 32 (both (leb 1 (d .modules)) (leb (d .modules) 32) (rows .0) .1);
-        every = leb-true 1 (d .every) (rows .1);
+        every = leb-true 1 (d .every) (both (leb 1 (d .every)) (leb (d .every) 255) (rows .1) .0);
         best = λ m low. entry-good m low .0;
         worst = λ m low. entry-good m low .1;
         units = λ m low. entry-good m low .2;

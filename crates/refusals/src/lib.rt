@@ -33,7 +33,7 @@ pub fn first(t: Tables, c: Call) -> u8
     let requests = t.requests;
     let mut r = next(0, 24, !codes::is_known(c.code));
     r = next(r, 11, codes::needs_task(c.code) & (t.running == 0));
-    r = next(r, 12, starts & (t.directory.modules <= c.number));
+    r = next(r, 12, starts & (t.directory.modules <= c.number as u32));
     r = next(r, 19, tells & undefined(defined, c.number));
     r = next(r, 22, transfers & (249 < c.number));
     r = next(r, 23, transfers & bad_count(c.amount) | bad_value(c));

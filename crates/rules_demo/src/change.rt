@@ -83,14 +83,14 @@ fn in_task(x: Task, field: u8, v: u64) -> Task {
     let mut y = x;
     match field {
         0 => y.place = byte(v),
-        1 => y.program = byte(v),
+        1 => y.program = half(v),
         2 => y.parent = byte(v),
         3 => y.core = byte(v),
         4 => y.start = byte(v),
-        5 => y.count = byte(v),
+        5 => y.count = word(v),
         6 => y.events = v,
         7 => y.time = word(v),
-        _ => y.request = byte(v),
+        _ => y.request = half(v),
     }
     y
 }
@@ -128,7 +128,7 @@ fn in_entry(e: Entry, field: u8, v: u64) -> Entry {
     match field {
         0 => y.level = byte(v),
         1 => y.units = byte(v),
-        2 => y.flags = byte(v),
+        2 => y.flags = half(v),
         _ => y.point = word(v),
     }
     y
@@ -148,8 +148,8 @@ pub fn number(t: Tables, which: u8, v: u64) -> Tables {
     let mut u = t;
     let mut d = t.directory;
     match which {
-        0 => d.modules = byte(v),
-        1 => d.every = byte(v),
+        0 => d.modules = word(v),
+        1 => d.every = word(v),
         2 => d.defined = v,
         3 => u.on = v,
         4 => u.running = byte(v),

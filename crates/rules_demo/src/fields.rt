@@ -37,15 +37,19 @@ use crate::count::tried;
 use crate::sample::sample;
 use crate::small;
 
-// No task uses module 6; module 8 is not used.
+// No task uses module 6; module 8 is not used. 264, 258 and 256 end in the byte of a good number.
 pub fn directory() {
     let b = tried(none(), change::number(small::loaded(), MODULES, 0));
     let b = number(b, MODULES, 33);
+    let b = number(b, MODULES, 264);
     let b = number(b, EVERY, 0);
+    let b = number(b, EVERY, 256);
+    let b = number(b, EVERY, 258);
     let b = entry(b, 6, LEVEL, 0);
     let b = entry(b, 6, LEVEL, 4);
     let b = entry(b, 6, UNITS, 65);
     let b = entry(b, 6, FLAGS, 2);
+    let b = entry(b, 6, FLAGS, 256);
     let b = entry(b, 8, LEVEL, 1);
     let b = entry(b, 31, POINT, 1);
     let u = number(none(), EVERY, 255);
@@ -55,10 +59,12 @@ pub fn directory() {
     line(b"the directory passes 4 to 7", b, u);
 }
 
-// Task 1 is ending, 9 in LINK, 11 has given its core back, 15 is ready; request 1 is done.
+// Task 1 is ending, 9 in LINK, 10 in CHECK on request 3, 11 has given its core back, 15 is ready; request 1 is done.
 pub fn range() {
     let b = task(range_of_numbers(), 1, PLACE, 9);
     let b = task(b, 9, PROGRAM, 8);
+    let b = task(b, 9, PROGRAM, 256);
+    let b = task(b, 10, REQUEST, 259);
     let b = task(b, 15, PARENT, 25);
     let b = task(b, 11, CORE, 3);
     let b = request(b, 1, PLACE, 4);

@@ -44,6 +44,7 @@ pub fn events_wait() {
 // Too high a count, and none; no event; an event that is not defined.
 pub fn events_pass() {
     let b = task(none(), 5, COUNT, 3);
+    let b = task(b, 5, COUNT, 258);
     let b = task(b, 5, COUNT, 0);
     let b = task(b, 6, COUNT, 2);
     let b = task(b, 6, EVENTS, 0);

@@ -25,14 +25,14 @@ fn draw(n: u64, i: u64) -> u64 {
 fn task(n: u64, i: u64) -> Task {
     Task {
         place: byte(draw(n, i)),
-        program: byte(draw(n, i ^ 1)),
+        program: half(draw(n, i ^ 1)),
         parent: byte(draw(n, i ^ 2)),
         core: byte(draw(n, i ^ 3)),
         start: byte(draw(n, i ^ 4)),
-        count: byte(draw(n, i ^ 5)),
+        count: word(draw(n, i ^ 5)),
         events: draw(n, i ^ 6),
         time: word(draw(n, i ^ 7)),
-        request: byte(draw(n, i ^ 8)),
+        request: half(draw(n, i ^ 8)),
     }
 }
 
@@ -70,7 +70,7 @@ fn entry(n: u64, i: u64) -> Entry {
     Entry {
         level: byte(draw(n, i)),
         units: byte(draw(n, i ^ 1)),
-        flags: byte(draw(n, i ^ 2)),
+        flags: half(draw(n, i ^ 2)),
         point: word(draw(n, i ^ 3)),
     }
 }
@@ -83,8 +83,8 @@ fn directory(n: u64) -> Directory {
         m += 1;
     }
     Directory {
-        modules: byte(draw(n, 1536)),
-        every: byte(draw(n, 1537)),
+        modules: word(draw(n, 1536)),
+        every: word(draw(n, 1537)),
         defined: draw(n, 1538),
         entries: entries,
     }

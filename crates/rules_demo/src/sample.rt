@@ -41,7 +41,7 @@ pub fn directory() -> Directory {
     }
 }
 
-pub fn task(place: u8, program: u8, parent: u8, core: u8, start: u8) -> Task {
+pub fn task(place: u8, program: u16, parent: u8, core: u8, start: u8) -> Task {
     Task {
         place: place,
         program: program,
@@ -56,20 +56,20 @@ pub fn task(place: u8, program: u8, parent: u8, core: u8, start: u8) -> Task {
 }
 
 // A task on the event queue, on the time queue, and in CHECK.
-fn awaits(program: u8, count: u8, events: u64) -> Task {
+fn awaits(program: u16, count: u32, events: u64) -> Task {
     let mut x = task(4, program, 0, 0, 0);
     x.count = count;
     x.events = events;
     x
 }
 
-fn sleeps(program: u8, core: u8, time: u32) -> Task {
+fn sleeps(program: u16, core: u8, time: u32) -> Task {
     let mut x = task(5, program, 0, core, 0);
     x.time = time;
     x
 }
 
-fn checks(program: u8, start: u8, request: u8) -> Task {
+fn checks(program: u16, start: u8, request: u16) -> Task {
     let mut x = task(7, program, 0, 1, start);
     x.request = request;
     x

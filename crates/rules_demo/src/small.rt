@@ -12,7 +12,7 @@ pub fn loaded() -> Tables {
 }
 
 // A module with core is started: task 1 runs, and has the first units of its level.
-pub fn started(program: u8, level: usize, granted: u64) -> Tables {
+pub fn started(program: u16, level: usize, granted: u64) -> Tables {
     let mut t = loaded();
     t.tasks[1] = sample::task(1, program, 0, 1, 0);
     t.running = 1;
@@ -21,7 +21,7 @@ pub fn started(program: u8, level: usize, granted: u64) -> Tables {
 }
 
 // The task is on its level's ready queue, and nobody runs.
-pub fn nobody_runs(program: u8, level: usize, granted: u64) -> Tables {
+pub fn nobody_runs(program: u16, level: usize, granted: u64) -> Tables {
     let mut t = started(program, level, granted);
     t.tasks[1].place = 2;
     t.running = 0;
@@ -29,7 +29,7 @@ pub fn nobody_runs(program: u8, level: usize, granted: u64) -> Tables {
 }
 
 // The task has read: request 1 is on the channel.
-pub fn reads(program: u8, level: usize, granted: u64) -> Tables {
+pub fn reads(program: u16, level: usize, granted: u64) -> Tables {
     let mut t = started(program, level, granted);
     t.requests[1] = sample::request(2, 1, 7, 13, 80);
     t.freeRequests = 131068;
@@ -38,7 +38,7 @@ pub fn reads(program: u8, level: usize, granted: u64) -> Tables {
 }
 
 // Its request is queued, and nothing is on the channel.
-pub fn nothing_on(program: u8, level: usize, granted: u64) -> Tables {
+pub fn nothing_on(program: u16, level: usize, granted: u64) -> Tables {
     let mut t = reads(program, level, granted);
     t.requests[1].place = 1;
     t.channel = 0;

@@ -4,6 +4,8 @@
 // call does to them.
 //
 // Block 0 names no block, and level 0 no level: slot 0 of `tasks`, `requests` and `pools` is always zero.
+//
+// No byte lies between two fields or behind the last: the order and the widths of the fields see to it, so that equal tables are equal bytes.
 ghost use mathlib.Core.Path.{_≡_};
 ghost use mathlib.Core.List.{[]};
 ghost use lib.ListN.{replicate};
@@ -17,15 +19,15 @@ use threads::Threads;
 // count and events are the condition of an event waiter, time that of a time waiter, request what a task in CHECK waits for.
 #[repr(C)]
 pub struct Task {
+    pub events: u64,
+    pub time: u32,
+    pub count: u32,
+    pub program: u16,
+    pub request: u16,
     pub place: u8,
-    pub program: u8,
     pub parent: u8,
     pub core: u8,
     pub start: u8,
-    pub count: u8,
-    pub events: u64,
-    pub time: u32,
-    pub request: u8,
 }
 
 // place: 0 free, 1 queued, 2 on the channel, 3 done. command: the call's code, 13 or 14.
@@ -38,19 +40,20 @@ pub struct Request {
     pub bytes: u16,
 }
 
-// idle, spare: the free task blocks and the free request blocks, bit k for block k. pools: the granted units of each level, one bit each.
+// on: the events that are on. pools: the granted units of each level, one bit each. freeTasks, freeRequests: the free blocks, bit k for block k.
+// running, channel: the block that runs, and the one on the channel; 0 for none.
 #[repr(C)]
 pub struct Tables {
     pub directory: Directory,
-    pub clock: u32,
     pub on: u64,
-    pub running: u8,
-    pub channel: u8,
-    pub freeTasks: u32,
-    pub freeRequests: u32,
     pub pools: [u64; 4],
     pub tasks: [Task; 25],
+    pub clock: u32,
+    pub freeTasks: u32,
+    pub freeRequests: u32,
     pub requests: [Request; 17],
+    pub running: u8,
+    pub channel: u8,
     pub threads: Threads,
 }
 
@@ -73,15 +76,15 @@ fn unused(directory: Directory, freeTasks: u32, freeRequests: u32) -> Tables
     ensures { λ r. ⌜ r ≡ tabled (state directory 0 0 0 0 freeTasks freeRequests (replicate 4 0) (replicate 25 noTask) (replicate 17 noRequest) (replicate 9 [])) ⌝ }
 {
     let task = Task {
-        place: 0,
+        events: 0,
+        time: 0,
+        count: 0,
         program: 0,
+        request: 0,
+        place: 0,
         parent: 0,
         core: 0,
         start: 0,
-        count: 0,
-        events: 0,
-        time: 0,
-        request: 0,
     };
     let request = Request {
         place: 0,
@@ -93,15 +96,15 @@ fn unused(directory: Directory, freeTasks: u32, freeRequests: u32) -> Tables
     let threads = threads::empty();
     Tables {
         directory: directory,
-        clock: 0,
         on: 0,
-        running: 0,
-        channel: 0,
-        freeTasks: freeTasks,
-        freeRequests: freeRequests,
         pools: [0; 4],
         tasks: [task; 25],
+        clock: 0,
+        freeTasks: freeTasks,
+        freeRequests: freeRequests,
         requests: [request; 17],
+        running: 0,
+        channel: 0,
         threads: threads,
     }
 }

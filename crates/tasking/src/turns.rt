@@ -46,7 +46,7 @@ pub fn timer(t: Tables) -> Tables
     let mut u = t;
     let d = u.directory;
     u.clock = u.clock + 1;
-    if u.clock % (d.every as u32) == 0 {
+    if u.clock % d.every == 0 {
         return wake::wake_time(u);
     }
     u

@@ -9,10 +9,10 @@ use calls::Call;
 use tables::Tables;
 
 // At least `count` of the events are on.
-pub fn enough_on(on: u64, count: u8, events: u64) -> bool
+pub fn enough_on(on: u64, count: u32, events: u64) -> bool
     ensures { λ r. ⌜ r ≡ leb count (size (bitAnd events on)) ⌝ }
 {
-    (count as u32) <= words::sets64::ones(events & on)
+    count <= words::sets64::ones(events & on)
 }
 
 // The clock reading of kinds 2 and 3. It may lie past the clock's end.
@@ -33,7 +33,7 @@ pub fn holds(t: Tables, c: Call) -> bool
         return true;
     }
     if c.kind == 1 {
-        return enough_on(t.on, c.value, c.events);
+        return enough_on(t.on, c.value as u32, c.events);
     }
     due(t, c) <= (t.clock as u64)
 }

@@ -19,7 +19,7 @@ fn awaiting_events(task: Task, count: u8, events: u64) -> Task
 {
     let mut x = task;
     x.place = 4;
-    x.count = count;
+    x.count = count as u32;
     x.events = events;
     x.time = 0;
     x.request = 0;

@@ -6,7 +6,7 @@
 
 mod tables;
 
-pub use tables::{Answer, Directory, Entry, Request, Tables, Task, Threads};
+pub use tables::{Answer, Directory, Entry, Request, Tables, Task, Threads, TABLES_LENGTH, TABLES_VERSION};
 
 extern "C" {
     fn khilzurgee_image_check(bytes: *const u8, length: usize) -> u8;

@@ -22,7 +22,7 @@ fn play(input: &[u8], out: &mut impl Write) -> io::Result<bool> {
     let (image, calls) = input.split_at(input.len().min(512));
     let loaded = Station::load(image);
     let (refusal, result) = match &loaded {
-        Ok(station) => (0, station.tables().directory.modules),
+        Ok(station) => (0, station.tables().directory.modules as u8), // M, 1 to 32
         Err(refusal) => (*refusal, 0),
     };
     writeln!(out, "{}", Answer { refusal, result, running: 0 })?;

@@ -1,7 +1,15 @@
 //! The tables and the answer, with the layout that the library has: `include/khilzurgee.h` says what each field means.
+//!
+//! Every byte of the tables is a field's: none lies between two fields or behind the last. So equal tables are equal bytes.
 
 use std::fmt;
-use std::mem::{offset_of, size_of};
+use std::mem::{align_of, offset_of, size_of, transmute};
+
+/// The form of stored tables: it changes with the layout. Keep it beside them, and read back none of another version.
+pub const TABLES_VERSION: u32 = 1;
+
+/// How many bytes the tables are.
+pub const TABLES_LENGTH: usize = 1128;
 
 /// A module, as in the image.
 #[repr(C)]
@@ -9,33 +17,33 @@ use std::mem::{offset_of, size_of};
 pub struct Entry {
     pub level: u8,
     pub units: u8,
-    pub flags: u8,
+    pub flags: u16,
     pub point: u32,
 }
 
-/// What a loaded image says: M modules, N cycles between looks at the time queue, the defined events, and the modules.
+/// What a loaded image says: the defined events, the modules, M of them, and N cycles between looks at the time queue.
 #[repr(C)]
 #[derive(Clone, Copy, Debug, PartialEq, Eq)]
 pub struct Directory {
-    pub modules: u8,
-    pub every: u8,
     pub defined: u64,
     pub entries: [Entry; 32],
+    pub modules: u32,
+    pub every: u32,
 }
 
 /// A task block.
 #[repr(C)]
 #[derive(Clone, Copy, Debug, PartialEq, Eq)]
 pub struct Task {
+    pub events: u64,
+    pub time: u32,
+    pub count: u32,
+    pub program: u16,
+    pub request: u16,
     pub place: u8,
-    pub program: u8,
     pub parent: u8,
     pub core: u8,
     pub start: u8,
-    pub count: u8,
-    pub events: u64,
-    pub time: u32,
-    pub request: u8,
 }
 
 /// A request block.
@@ -60,20 +68,37 @@ pub struct Threads {
 }
 
 /// The whole state of an executive. It may hold anything: tables that break the table rules are answered by 9.
+///
+/// They are aligned to 8, as Rust aligns every value of this type, and the library takes that for granted. Stored bytes may lie anywhere:
+/// [`Tables::from_bytes`] makes tables of them.
 #[repr(C)]
 #[derive(Clone, Copy, Debug, PartialEq, Eq)]
 pub struct Tables {
     pub directory: Directory,
-    pub clock: u32,
     pub on: u64,
-    pub running: u8,
-    pub channel: u8,
-    pub idle: u32,
-    pub spare: u32,
     pub pools: [u64; 4],
     pub tasks: [Task; 25],
+    pub clock: u32,
+    pub free_tasks: u32,
+    pub free_requests: u32,
     pub requests: [Request; 17],
+    pub running: u8,
+    pub channel: u8,
     pub threads: Threads,
+}
+
+impl Tables {
+    /// The stored form: the bytes of the tables, on a little-endian machine. The version goes beside them, [`TABLES_VERSION`].
+    pub fn to_bytes(&self) -> [u8; TABLES_LENGTH] {
+        // SAFETY: the two are of one size, and every byte of the tables is a field's, so that each is set.
+        unsafe { transmute(*self) }
+    }
+
+    /// The tables that were stored as these bytes, or whatever else the bytes say.
+    pub fn from_bytes(bytes: [u8; TABLES_LENGTH]) -> Tables {
+        // SAFETY: the two are of one size, and the fields are whole numbers and arrays of them, so that any bytes are a value of theirs.
+        unsafe { transmute(bytes) }
+    }
 }
 
 /// The three numbers of an answer. They print as the desk's line.
@@ -94,20 +119,31 @@ impl fmt::Display for Answer {
     }
 }
 
-/// Asserts a struct's size, and the offset of each of its fields, while the crate is compiled.
+/// How many bytes the field takes that the function gives.
+const fn taken<S, F>(_: fn(&S) -> &F) -> usize {
+    size_of::<F>()
+}
+
+/// Asserts a struct's size and the offset of each of its fields, and that the fields take every byte of it, while the crate is compiled.
 macro_rules! layout {
-    ($name:ident, $size:literal, $($field:ident $at:literal),+) => {
+    ($name:ident, $size:expr, $($field:ident $at:literal),+) => {
         const _: () = {
             assert!(size_of::<$name>() == $size);
             $(assert!(offset_of!($name, $field) == $at);)+
+            assert!(0 $(+ taken(|s: &$name| &s.$field))+ == $size);
         };
     };
 }
 
 layout!(Entry, 8, level 0, units 1, flags 2, point 4);
-layout!(Directory, 272, modules 0, every 1, defined 8, entries 16);
-layout!(Task, 24, place 0, program 1, parent 2, core 3, start 4, count 5, events 8, time 16, request 20);
+layout!(Directory, 272, defined 0, entries 8, modules 264, every 268);
+layout!(Task, 24, events 0, time 8, count 12, program 16, request 18, place 20, parent 21, core 22, start 23);
 layout!(Request, 6, place 0, owner 1, device 2, command 3, bytes 4);
 layout!(Threads, 100, fwd 0, back 41, first 82, last 91);
-layout!(Tables, 1144, directory 0, clock 272, on 280, running 288, channel 289, idle 292, spare 296, pools 304, tasks 336, requests 936, threads 1038);
+layout!(
+    Tables, TABLES_LENGTH, directory 0, on 272, pools 280, tasks 312, clock 912, free_tasks 916, free_requests 920, requests 924, running 1026, channel 1027,
+    threads 1028
+);
 layout!(Answer, 3, refusal 0, result 1, running 2);
+
+const _: () = assert!(align_of::<Tables>() == 8);

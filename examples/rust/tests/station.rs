@@ -1,6 +1,6 @@
-//! What the safe type promises: the document's first calls, refused images, and tables that hold anything.
+//! What the safe type promises: the document's first calls, refused images, tables that hold anything, and tables stored as bytes.
 
-use khilzurgee::{image_check, Answer, Station};
+use khilzurgee::{image_check, Answer, Station, Tables};
 
 /// The image of the session in full: N 2, events 0 and 1, three modules; its check is 1,906.
 fn image() -> [u8; 512] {
@@ -62,4 +62,17 @@ fn broken_tables_are_9() {
     let mut station = Station::from(tables);
     assert_eq!(station.call(&call(32, 0)), answer(9, 0, 0));
     assert_eq!(*station.tables(), tables);
+}
+
+#[test]
+fn stored_tables_go_on() {
+    let mut station = Station::load(&image()).expect("a good image");
+    assert_eq!(station.call(&call(35, 0)), answer(0, 1, 1));
+    let stored = station.tables().to_bytes();
+    let mut other = Station::from(Tables::from_bytes(stored));
+    assert_eq!(other, station);
+    assert_eq!(other.call(&call(7, 2)), answer(0, 2, 1));
+    assert_ne!(other.tables().to_bytes(), stored);
+    assert_eq!(station.call(&call(7, 2)), answer(0, 2, 1));
+    assert_eq!(other.tables().to_bytes(), station.tables().to_bytes());
 }

@@ -20,8 +20,8 @@ pool-fits c level = search needs
 typed : (c : tie.Start) → Typed (c .args .t)
 typed c =
     record {
-      tasks = sym (length-map (c .args .t .tasks) _) ∙ c .good .0 .1 .1 .1 .1 .1 .1 .1 .1 .1 .1 .0 .1 .0 .1;
-      requests = sym (length-map (c .args .t .requests) _) ∙ c .good .0 .1 .1 .1 .1 .1 .1 .1 .1 .1 .1 .1 .0 .1 .0 .1;
+      tasks = sym (length-map (c .args .t .tasks) _) ∙ c .good .0 .1 .1 .1 .1 .1 .0 .1 .0 .1;
+      requests = sym (length-map (c .args .t .requests) _) ∙ c .good .0 .1 .1 .1 .1 .1 .1 .1 .1 .1 .0 .1 .0 .1;
       pools = search needs;
       queues = search needs;
       low = λ level. pool-fits c level .fits;

@@ -77,4 +77,5 @@ first-spec =
     (search needs)
     (search needs)
     (search needs)
+    (search needs)
     returns)

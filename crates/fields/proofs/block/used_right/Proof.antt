@@ -4,6 +4,9 @@ use Rattle.fields.proofs.ByPlace.{used-whole}
 use Rattle.fields.proofs.block.used_right.Statement.{statement}
 use Rattle.fields.proofs.block.used_right.Tie as tie
 
+cast-result : tie.Need-cast-result
+cast-result c = search needs
+
 core-right-requires : tie.Need-core-right-requires
 core-right-requires c κs = search needs
 
@@ -22,4 +25,4 @@ returns c =
 
 pub used-right-spec : {M : Type 1} → statement M
 used-right-spec =
-    tie.close (tie.spec core-right-requires place-right-requires own-right-requires returns)
+    tie.close (tie.spec cast-result core-right-requires place-right-requires own-right-requires returns)

@@ -9,9 +9,6 @@ returns : tie.Need-returns
 unfolding waiterRight
 returns c = rw (ne-eqb _ 4 (c .if1 .taken))
 
-cast-count : tie.Need-cast-count
-cast-count c = search needs
-
 ones-requires : tie.Need-ones-requires
 ones-requires c κs = search needs
 
@@ -20,7 +17,7 @@ ones-requires-2 c κs = search needs
 
 returns-2 : tie.Need-returns-2
 unfolding waiterRight
-returns-2 c = rw (eq-eqb _ 4 (c .before .before .before .before .before .before .before .if1 .left)) (cc)
+returns-2 c = rw (eq-eqb _ 4 (c .before .before .before .before .before .before .before .before .if1 .left)) (cc)
 
 pub waiter-right-spec : {M : Type 1} → statement M
-waiter-right-spec = tie.close (tie.spec returns cast-count ones-requires ones-requires-2 returns-2)
+waiter-right-spec = tie.close (tie.spec returns ones-requires ones-requires-2 returns-2)

@@ -78,9 +78,10 @@ loop2-again c =
 
 element-copy-out-e : tie.Need-element-copy-out-e Inv-loop2 μ-loop2 Inv-loop μ-loop
 element-copy-out-e c =
-    let l = c .before .before .before .before .before .before .before .before .before in
+    let turn = c .before .before .before .before .before .before .before .before in
+    let l = turn .before in
     let a = l .before .before in
-    omega (arith, module-low (a .args .t1) (a .pre) (l .loop .k + 1) (omega arith))
+    omega (arith, module-low (a .args .t1) (a .pre) (l .loop .k + 1) (omega (arith, turn .loop-test .taken)))
 
 cast-e : tie.Need-cast-e Inv-loop2 μ-loop2 Inv-loop μ-loop
 cast-e c = omega (arith, element-copy-out-e c)

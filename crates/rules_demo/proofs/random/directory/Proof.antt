@@ -49,14 +49,14 @@ loop-again c = search needs
 draw-requires : tie.Need-draw-requires Inv-loop μ-loop
 draw-requires c κs = search needs
 
-byte-requires : tie.Need-byte-requires Inv-loop μ-loop
-byte-requires c κs = search needs
+word-requires : tie.Need-word-requires Inv-loop μ-loop
+word-requires c κs = search needs
 
 draw-requires-2 : tie.Need-draw-requires-2 Inv-loop μ-loop
 draw-requires-2 c κs = search needs
 
-byte-requires-2 : tie.Need-byte-requires-2 Inv-loop μ-loop
-byte-requires-2 c κs = search needs
+word-requires-2 : tie.Need-word-requires-2 Inv-loop μ-loop
+word-requires-2 c κs = search needs
 
 draw-requires-3 : tie.Need-draw-requires-3 Inv-loop μ-loop
 draw-requires-3 c κs = search needs
@@ -83,8 +83,8 @@ directory-spec =
     loop-less
     loop-again
     draw-requires
-    byte-requires
+    word-requires
     draw-requires-2
-    byte-requires-2
+    word-requires-2
     draw-requires-3
     returns)

@@ -10,9 +10,6 @@ use Rattle.tasking.proofs.turns.timer.Tie as tie
 add-u : tie.Need-add-u
 add-u c = omega (arith, c .before .before .pre .1, c .struct-known)
 
-cast-if1 : tie.Need-cast-if1
-cast-if1 c = search needs
-
 rem-if1 : tie.Need-rem-if1
 rem-if1 c = omega (arith, c .before .before .before .before .pre .0 .state .shape .directory .every)
 
@@ -34,7 +31,6 @@ timer-spec =
     tie.close
     (tie.spec
     add-u
-    cast-if1
     rem-if1
     wake-time-requires
     returns

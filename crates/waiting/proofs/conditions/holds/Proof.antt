@@ -9,12 +9,15 @@ returns : tie.Need-returns
 unfolding holds
 returns c = rw (eq-eqb _ _ (c .if1 .taken))
 
+cast-enough-on : tie.Need-cast-enough-on
+cast-enough-on c = search needs
+
 enough-on-requires : tie.Need-enough-on-requires
 enough-on-requires c κs = search needs
 
 returns-2 : tie.Need-returns-2
 unfolding holds enough
-returns-2 c = rw (ne-eqb _ _ (c .before .before .before .if1 .left), eq-eqb _ _ (c .before .if2 .taken)) (c .enough-on .ensures)
+returns-2 c = rw (ne-eqb _ _ (c .before .before .before .before .if1 .left), eq-eqb _ _ (c .before .before .if2 .taken)) (c .enough-on .ensures)
 
 due-requires : tie.Need-due-requires
 due-requires c κs = search needs
@@ -28,4 +31,4 @@ returns-3 c = rw (ne-eqb _ _ (c .before .before .before .before .if1 .left), ne-
 
 pub holds-spec : {M : Type 1} → statement M
 holds-spec =
-    tie.close (tie.spec returns enough-on-requires returns-2 due-requires cast-result returns-3)
+    tie.close (tie.spec returns cast-enough-on enough-on-requires returns-2 due-requires cast-result returns-3)
