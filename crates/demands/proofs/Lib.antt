@@ -1,2 +1,4 @@
 pub mod Answered
 pub mod Kept
+pub mod Aborted
+pub mod Dispatched

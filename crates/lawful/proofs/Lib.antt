@@ -62,6 +62,12 @@ pub mod RestRules
 pub mod Pointers
 pub mod FromRules
 pub mod ToRules
--- Demand 3.
+-- Demands 1 and 3.
+pub mod Ends
 pub mod Results
 pub mod Steps
+-- What `demands` cites besides.
+pub mod Never
+pub mod Plain
+pub mod Agree
+pub mod Runner

@@ -2,4 +2,4 @@ pub mod Shape
 pub mod Resting
 pub mod Accepts
 pub mod Tables
-pub mod Taken
+pub mod Reached
