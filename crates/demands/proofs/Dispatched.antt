@@ -15,7 +15,7 @@ use Rattle.meaning.specs.Step.{stepOf}
 use Rattle.lawful.specs.Reached.{Reached, First}
 use Rattle.lawful.proofs.Steps.{reached-lawful}
 use Rattle.lawful.proofs.Stays.{effect-puts}
-use Rattle.lawful.proofs.Runner.{step-newly, step-undisturbed, step-left, interrupts-need-none}
+use Rattle.lawful.proofs.After.{step-newly, step-undisturbed, step-left, interrupts-need-none}
 
 module _ (image : List ℕ) {t : Tables} (reached : Reached image t) where
   abbrev s : State

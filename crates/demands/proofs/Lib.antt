@@ -1,4 +1,5 @@
 pub mod Answered
+pub mod Exact
 pub mod Kept
 pub mod Aborted
 pub mod Dispatched

@@ -70,4 +70,4 @@ pub mod Steps
 pub mod Never
 pub mod Plain
 pub mod Agree
-pub mod Runner
+pub mod After
