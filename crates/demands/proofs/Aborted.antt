@@ -1,13 +1,14 @@
 -- Demand 3: "LINK parents never form a ring, so an abort takes at most 24 tasks, each once." Of the tables t that are reached, `Reached image t`.
 use mathlib.Core.Path.{_≡_}
-use mathlib.Core.Logic.{_≢_}
+use mathlib.Core.Logic.{_≢_, _⊎_}
 use mathlib.Core.List.{List}
 use Prim.Native.Nat.{ℕ, _≤_, _<_}
 use lib.ListN.{length, getD}
 use Rattle.threads.specs.Threads.{count}
 use Rattle.words.specs.Words.{each}
 use Rattle.tables.specs.declared.Tables.{Tables}
-use Rattle.tables.specs.State.{State, withRunning, read}
+use Rattle.tables.specs.Blocks.{Free, Ready, Ending}
+use Rattle.tables.specs.State.{State, withRunning, taskAt, read}
 use Rattle.calls.specs.Calls.{callOf}
 use Rattle.meaning.specs.Finish.{aborted}
 use Rattle.meaning.specs.Rules.{upward}
@@ -16,6 +17,7 @@ use Rattle.lawful.specs.Resting.{Lawful}
 use Rattle.lawful.specs.Reached.{Reached, taken, takenBy}
 use Rattle.lawful.proofs.Chains.{chain-ends, each-once, no-return}
 use Rattle.lawful.proofs.Taken.{at-most, each-taken-once, check-takes, the-chain as chain, none-cut as cuts-none}
+use Rattle.lawful.proofs.Gone.{check-gone, check-others}
 use Rattle.lawful.proofs.Steps.{reached-lawful}
 
 module _ (image : List ℕ) {t : Tables} (reached : Reached image t) where
@@ -56,3 +58,14 @@ module _ (image : List ℕ) {t : Tables} (reached : Reached image t) where
   -- "each once"
   pub taken-once : (y : ℕ) → count y victims ≤ 1
   taken-once = each-taken-once lawful
+
+  -- and where they are then: each is free, or waits as ending, and has lost its link; every other task is where it was, or was given core that it waited for and is ready
+  module _ (bytes : List ℕ) (aborts : callOf bytes .code ≡ 34) where
+    abbrev left : State
+    left = effect s (callOf bytes) .state
+
+    pub taken-are-gone : (i : ℕ) → let y = upward s i (t .running) in y ≢ 0 → ((taskAt left y .place ≡ Free) ⊎ (taskAt left y .place ≡ Ending)) × (taskAt left y .parent ≡ 0)
+    taken-are-gone i d = let g = check-gone lawful (callOf bytes) aborts i d in (g .place, g .parent)
+
+    pub others-are-not : (y : ℕ) → y ≢ 0 → ((i : ℕ) → upward s i (t .running) ≢ y) → (taskAt left y .place ≡ taskAt s y .place) ⊎ (taskAt left y .place ≡ Ready)
+    others-are-not = check-others lawful (callOf bytes) aborts

@@ -40,6 +40,8 @@ pub mod Finish
 pub mod Chains
 pub mod Abort
 pub mod Taken
+pub mod Others
+pub mod Gone
 pub mod Timer
 pub mod Channel
 pub mod IoDone

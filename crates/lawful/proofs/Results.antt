@@ -1,6 +1,6 @@
 -- "no accepted answer carries a zero result": a block that is given is not block 0, and the other calls answer 1 or 2. By the codes. Of the rules that the tables pass, that the
 -- free blocks are sets of blocks is enough.
-use mathlib.Core.Bool.{Bool, true, false}
+use mathlib.Core.Bool.{true, false}
 use mathlib.Core.Path.{_≡_, refl, ap, _∙_}
 use mathlib.Core.Logic.{_≢_, ⊎-elim}
 use mathlib.Core.List.{List, [], _∷_}
@@ -11,6 +11,7 @@ use borrow.Author.Tests.{eqb-false, ltb-true, not-true, not-false}
 use Rattle.threads.proofs.Lists.{tested}
 use Rattle.words.specs.Words.{if_then_else_, _among_, allTrue, has}
 use Rattle.words.specs.Rows.{firstOf}
+use Rattle.words.proofs.Members.{true-or-false}
 use Rattle.tables.specs.declared.Tables.{Tables}
 use Rattle.tables.specs.State.{State, read}
 use Rattle.calls.specs.declared.Call.{Call}
@@ -31,9 +32,9 @@ record Some (e : Effect) : Type 0 where
 pick : (a n : ℕ) {x y : Effect} → (a ≡ n → Some x) → (a ≢ n → Some y) → Some (if eqb a n then x else y)
 pick a n f g = ⊎-elim (λ z. rw (z .0) (f (z .1))) (λ z. rw (z .0) (g (z .1))) (tested a n)
 
-tells-some : (b : Bool) → 1 ≤ (if b then 2 else 1)
-tells-some true = omega arith
-tells-some false = omega arith
+tells-some : (s : State) (c : Call) → 1 ≤ testEvent s c .result
+unfolding testEvent
+tells-some s c = ⊎-elim (λ (h : has (s .on) (c .number) ≡ true). rw h (omega arith)) (λ (h : has (s .on) (c .number) ≡ false). rw h (omega arith)) (true-or-false (has (s .on) (c .number)))
 
 module _ (s : State) (c : Call) (e : firstOf (callRows s c) ≡ 0) (f : freeSets s ≡ true) where
   starts-some : c .code among (5 ∷ 7 ∷ 35 ∷ []) ≡ true → 1 ≤ operatorStart s c .result
@@ -52,7 +53,7 @@ module _ (s : State) (c : Call) (e : firstOf (callRows s c) ≡ 0) (f : freeSets
   one-of l n e z = ap (λ (x : ℕ). x among l) z ∙ e
 
   each : Some (effect s c)
-  unfolding effect freemain link end schedule wait signal testEvent dispatchCheck check timer ioDone programCheck operatorStart _among_
+  unfolding effect freemain link end schedule wait signal dispatchCheck check timer ioDone programCheck operatorStart _among_
   each =
       pick (c .code) 1 (λ z. record { some = omega arith }) (λ n1.
       pick (c .code) 5 (λ z. record { some = starts-some (one-of (5 ∷ 7 ∷ 35 ∷ []) 5 refl z) }) (λ n5.
@@ -60,7 +61,7 @@ module _ (s : State) (c : Call) (e : firstOf (callRows s c) ≡ 0) (f : freeSets
       pick (c .code) 7 (λ z. record { some = starts-some (one-of (5 ∷ 7 ∷ 35 ∷ []) 7 refl z) }) (λ n7.
       pick (c .code) 8 (λ z. record { some = omega arith }) (λ n8.
       pick (c .code) 9 (λ z. record { some = omega arith }) (λ n9.
-      pick (c .code) 10 (λ z. record { some = tells-some (has (s .on) (c .number)) }) (λ n10.
+      pick (c .code) 10 (λ z. record { some = tells-some s c }) (λ n10.
       pick (c .code) 12 (λ z. record { some = omega arith }) (λ n12.
       pick (c .code) 13 (λ z. record { some = transfers-some (one-of (13 ∷ 14 ∷ []) 13 refl z) }) (λ n13.
       pick (c .code) 14 (λ z. record { some = transfers-some (one-of (13 ∷ 14 ∷ []) 14 refl z) }) (λ n14.
