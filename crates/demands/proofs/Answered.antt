@@ -1,124 +1,118 @@
--- Demand 1: "Any phase image and any call bytes, in any state, get a definite answer. Bad ones are refused by the number in document 01. A refused call changes no
--- table, a refused image gives all-zero tables, .. and no accepted answer carries a zero result." That every answer is definite, and which it is, are the
--- contracts of `executive`, which have no `requires`; the sentences that follow are theorems here. (A refused write: the contract of `image::write`.)
-use mathlib.Core.Bool.{Bool, true, false, not, _||_, or-true, true≢false}
-use mathlib.Core.Path.{_≡_, refl, sym, ap, _∙_}
-use mathlib.Core.Logic.{_≢_, ⊎-elim}
-use mathlib.Core.List.{List, [], _∷_}
-use Prim.Native.Nat.{ℕ}
+-- Demand 1: "Any phase image and any call bytes, in any state, get a definite answer. Bad ones are refused by the number in document 01. A refused call changes no table, a refused
+-- image gives all-zero tables, a refused write writes nothing, and no accepted answer carries a zero result."
+-- Each sentence is a theorem of what a call, a load and a write are proved to give: `stepOf` of any tables and any bytes, `loadOf` and `tablesOf` of any bytes, `writeOf` of any
+-- directory and any buffer (contracts of `executive::step`, `executive::load`, `image::write`, which have no `requires`).
+use mathlib.Core.Bool.{true}
+use mathlib.Core.Path.{_≡_, refl}
+use mathlib.Core.Logic.{_≢_, _⊎_, ⊎-elim, _↔_}
+use mathlib.Core.List.{List}
+use Prim.Native.Nat.{ℕ, _≤_}
 use native.Mathlib.Omega.{arith}
-use lib.ListN.{length}
-use lib.Dec.{eqb}
-use borrow.Author.Tests.{eq-eqb, ne-eqb}
-use Rattle.threads.proofs.Lists.{tested}
-use Rattle.words.specs.Words.{if_then_else_, _among_}
-use Rattle.words.specs.Rows.{Row, _when_, firstOf}
-use Rattle.image.specs.declared.Outcome.{Outcome}
+use lib.ListN.{replicate}
+use Rattle.threads.specs.Threads.{after, before, listOf, tab, row, threaded}
+use Rattle.words.specs.Words.{_among_}
+use Rattle.words.specs.Rows.{firstOf}
 use Rattle.image.specs.declared.Outcome.the-variants.{Refused, Accepted}
+use Rattle.image.specs.declared.Directory.{Directory}
 use Rattle.image.specs.Answer.{refusalOf, resultOf}
-use Rattle.image.specs.Load.{loadOf}
-use Rattle.image.proofs.Cases.{refusal-of, refused-by}
+use Rattle.image.specs.Directory.{noDirectory}
+use Rattle.image.specs.Load.{directoryOf, loadRows, refusedLoad, loadOf}
+use Rattle.image.specs.Write.{imageOf, writeRows, writeOf}
 use Rattle.tables.specs.declared.Tables.{Tables}
-use Rattle.tables.specs.State.{read, tabled, allZero}
-use Rattle.calls.specs.Calls.{callOf}
-use Rattle.meaning.specs.declared.Step.{Step}
-use Rattle.meaning.specs.Rules.{rulesHold}
-use Rattle.meaning.specs.Refusals.{callRows, refusals}
-use Rattle.meaning.specs.Services.{effect}
+use Rattle.tables.specs.State.{tabled, allZero}
+use Rattle.meaning.specs.Refusals.{refusals}
 use Rattle.meaning.specs.Step.{refused, accepted, stepOf, tablesOf}
 use Rattle.meaning.proofs.Loaded.{zero-refused}
-use Rattle.lawful.specs.Tables.{Typed}
-use Rattle.lawful.proofs.Steps.{rules-tables}
-use Rattle.lawful.proofs.Accepted.{accepts, rows-left}
+use Rattle.lawful.proofs.Ends.{refused-where, some-result, step-ends, step-outcome, refused-leaves, load-ends, load-outcome, refused-tables, loaded-modules, write-ends, write-outcome}
 use Rattle.lawful.proofs.Results.{result-some}
 
--- ---- The two ways in which a step ends.
+-- ---- Calls: any tables, any bytes.
 module _ (t : Tables) (bytes : List ℕ) where
-  abbrev pub number : ℕ
-  number = firstOf (refusals t bytes)
+  -- the number by which document 01 refuses the call; 0 where no row applies
+  abbrev pub refusalNumber : ℕ
+  refusalNumber = firstOf (refusals t bytes)
 
-  pub ends-refused : number ≢ 0 → stepOf t bytes ≡ refused t number
-  unfolding stepOf
-  ends-refused d = rw (ne-eqb (firstOf (refusals t bytes)) 0 d)
+  -- "Any .. call bytes, in any state, get a definite answer": the refusal by that number, or what document 01 says of the call
+  pub definite : ((refusalNumber ≢ 0) × (stepOf t bytes ≡ refused t refusalNumber)) ⊎ ((refusalNumber ≡ 0) × (stepOf t bytes ≡ accepted t bytes))
+  definite = step-ends t bytes
 
-  pub ends-accepted : number ≡ 0 → stepOf t bytes ≡ accepted t bytes
-  unfolding stepOf
-  ends-accepted z = rw (eq-eqb (firstOf (refusals t bytes)) 0 z)
+  -- "Bad ones are refused by the number in document 01": by n where n is the first row that applies, and only there
+  pub refused-exactly : (n : ℕ) → (stepOf t bytes .outcome ≡ Refused n) ↔ ((refusalNumber ≡ n) × (n ≢ 0))
+  refused-exactly = refused-where (step-outcome t bytes)
 
--- an outcome is one of the two
-taken : Outcome → ℕ
-taken (Refused n) = 0
-taken (Accepted r) = 1
+  -- "A refused call changes no table"
+  pub refused-changes-nothing : (n : ℕ) → stepOf t bytes .outcome ≡ Refused n → stepOf t bytes .tables ≡ t
+  refused-changes-nothing n e =
+      let w = refused-exactly n .0 e in
+      ⊎-elim (λ z. rw (z .1) (refused-leaves t refusalNumber)) (λ z. absurd (omega (arith, w, z .0))) definite
 
-pub was-refused : (t : Tables) (bytes : List ℕ) (n : ℕ) → stepOf t bytes .outcome ≡ Refused n → (number t bytes ≢ 0) × (number t bytes ≡ n)
-unfolding taken accepted refused
-was-refused t bytes n e =
-    ⊎-elim
-    (λ z. absurd (omega (arith, ap taken (sym (ap (λ (r : Step). r .outcome) (ends-accepted t bytes (z .1))) ∙ e))))
-    (λ z. (z .1, sym (refusal-of (number t bytes) 0) ∙ ap refusalOf (sym (ap (λ (r : Step). r .outcome) (ends-refused t bytes (z .1))) ∙ e)))
-    (tested (number t bytes) 0)
+  -- "no accepted answer carries a zero result": of its first two numbers, refusal and result, not both are 0
+  pub no-zero-result : refusalOf (stepOf t bytes .outcome) ≡ 0 → resultOf (stepOf t bytes .outcome) ≢ 0
+  no-zero-result = some-result (step-outcome t bytes) (λ z i. omega (arith, result-some t bytes z, i))
 
-pub was-accepted : (t : Tables) (bytes : List ℕ) (r : ℕ) → stepOf t bytes .outcome ≡ Accepted r → (number t bytes ≡ 0) × (effect (read t) (callOf bytes) .result ≡ r)
-unfolding taken accepted refused
-was-accepted t bytes r e =
-    ⊎-elim
-    (λ z. (z .1, ap resultOf (sym (ap (λ (r : Step). r .outcome) (ends-accepted t bytes (z .1))) ∙ e)))
-    (λ z. absurd (omega (arith, ap taken (sym (ap (λ (r : Step). r .outcome) (ends-refused t bytes (z .1)) ∙ refused-by (number t bytes) (z .1)) ∙ e))))
-    (tested (number t bytes) 0)
+-- ---- Images: any bytes.
+module _ (image : List ℕ) where
+  abbrev pub imageRefusal : ℕ
+  imageRefusal = firstOf (loadRows image)
 
--- ---- "A refused call changes no table"
-pub refused-changes-nothing : (t : Tables) (bytes : List ℕ) (n : ℕ) → stepOf t bytes .outcome ≡ Refused n → stepOf t bytes .tables ≡ t
-unfolding refused
-refused-changes-nothing t bytes n e = ap (λ (r : Step). r .tables) (ends-refused t bytes (was-refused t bytes n e .0))
+  -- "Any phase image .. get[s] a definite answer"
+  pub image-definite : ((imageRefusal ≢ 0) × (loadOf image ≡ refusedLoad imageRefusal))
+      ⊎ ((imageRefusal ≡ 0) × (loadOf image ≡ record { outcome = Accepted (directoryOf image .modules); directory = directoryOf image }))
+  image-definite = load-ends image
 
--- ---- "a refused image gives all-zero tables", "on which every call answers 9"
-pub refused-image-zero : (image : List ℕ) → refusalOf (loadOf image .outcome) ≢ 0 → tablesOf image ≡ tabled allZero
-unfolding tablesOf
-refused-image-zero image d = rw (ne-eqb (refusalOf (loadOf image .outcome)) 0 d)
+  -- "Bad ones are refused by the number in document 01"
+  pub image-refused-exactly : (n : ℕ) → (loadOf image .outcome ≡ Refused n) ↔ ((imageRefusal ≡ n) × (n ≢ 0))
+  image-refused-exactly = refused-where (load-outcome image)
 
+  -- "a refused image gives all-zero tables", and an all-zero directory
+  pub refused-image-zero : (n : ℕ) → loadOf image .outcome ≡ Refused n → (tablesOf image ≡ tabled allZero) × (loadOf image .directory ≡ noDirectory)
+  refused-image-zero = refused-tables image
+
+  -- "no accepted answer carries a zero result": M is 1 to 32
+  pub no-zero-modules : refusalOf (loadOf image .outcome) ≡ 0 → (1 ≤ resultOf (loadOf image .outcome)) × (resultOf (loadOf image .outcome) ≤ 32)
+  no-zero-modules = loaded-modules image
+
+-- all-zero tables: every number in them is 0
+pub zeros : tabled allZero ≡ record {
+  directory = record { modules = 0; every = 0; defined = 0; entries = replicate 32 (record { level = 0; units = 0; flags = 0; point = 0 }) };
+  clock = 0;
+  on = 0;
+  running = 0;
+  channel = 0;
+  freeTasks = 0;
+  freeRequests = 0;
+  pools = replicate 4 0;
+  tasks = replicate 25 (record { place = 0; program = 0; parent = 0; core = 0; start = 0; count = 0; events = 0; time = 0; request = 0 });
+  requests = replicate 17 (record { place = 0; owner = 0; device = 0; command = 0; bytes = 0 });
+  threads = record { fwd = replicate 41 0; back = replicate 41 0; first = replicate 9 0; last = replicate 9 0 };
+}
+unfolding allZero threaded after before listOf _among_ tab row
+zeros = refl
+
+-- "on which every call answers 9"
 pub zero-answers-nine : (bytes : List ℕ) → stepOf (tabled allZero) bytes ≡ refused (tabled allZero) 9
 zero-answers-nine bytes = zero-refused bytes
 
--- ---- "no accepted answer carries a zero result"
-pub no-zero-result : (t : Tables) → Typed t → (bytes : List ℕ) (r : ℕ) → stepOf t bytes .outcome ≡ Accepted r → r ≢ 0
-no-zero-result t y bytes r e z =
-    let w = was-accepted t bytes r e in
-    let left = rows-left t bytes (w .0) in
-    let g = rules-tables t y (left .0) .state in
-    omega (arith, result-some g (accepts (read t) (callOf bytes) (left .2) g), w .1, z)
+-- ---- Writing: any directory, any buffer.
+module _ (d : Directory) (buffer : List ℕ) where
+  abbrev pub writeRefusal : ℕ
+  writeRefusal = firstOf (writeRows d buffer)
 
--- ---- "Bad ones are refused by the number in document 01"
+  -- the answer to a write is definite too
+  pub write-definite : ((writeRefusal ≢ 0) × (writeOf d buffer ≡ record { outcome = Refused writeRefusal; buffer = buffer }))
+      ⊎ ((writeRefusal ≡ 0) × (writeOf d buffer ≡ record { outcome = Accepted 1; buffer = imageOf d }))
+  write-definite = write-ends d buffer
 
--- the numbers of rows; what the first that applies gives is one of them
-numbersOf : List Row → List ℕ
-numbersOf [] = []
-numbersOf (r ∷ l) = r .number ∷ numbersOf l
+  -- "Bad ones are refused by the number in document 01"
+  pub write-refused-exactly : (n : ℕ) → (writeOf d buffer .outcome ≡ Refused n) ↔ ((writeRefusal ≡ n) × (n ≢ 0))
+  write-refused-exactly = refused-where (write-outcome d buffer)
 
-one-of-them : (l : List Row) → firstOf l ≢ 0 → firstOf l among numbersOf l ≡ true
-unfolding firstOf numbersOf _among_
-one-of-them [] d = absurd (d refl)
-one-of-them (r ∷ l) d = go (r .applies) d (one-of-them l)
-  where
-    go : (b : Bool) → (if b then r .number else firstOf l) ≢ 0 → (firstOf l ≢ 0 → firstOf l among numbersOf l ≡ true)
-        → (eqb (r .number) (if b then r .number else firstOf l) || (if b then r .number else firstOf l) among numbersOf l) ≡ true
-    go true d ih = rw (eq-eqb (r .number) (r .number) refl)
-    go false d ih = rw (ih d) (or-true (eqb (r .number) (firstOf l)))
+  -- "a refused write writes nothing"
+  pub refused-writes-nothing : (n : ℕ) → writeOf d buffer .outcome ≡ Refused n → writeOf d buffer .buffer ≡ buffer
+  refused-writes-nothing n e =
+      let w = write-refused-exactly n .0 e in
+      ⊎-elim (λ z. rw (z .1)) (λ z. absurd (omega (arith, w, z .0))) write-definite
 
-abbrev pub numbers : List ℕ
-numbers = 9 ∷ 10 ∷ 24 ∷ 11 ∷ 12 ∷ 19 ∷ 22 ∷ 23 ∷ 18 ∷ 13 ∷ 14 ∷ 15 ∷ 16 ∷ 17 ∷ 20 ∷ 21 ∷ []
-
-pub refused-by-number : (t : Tables) (bytes : List ℕ) (n : ℕ) → stepOf t bytes .outcome ≡ Refused n → n among numbers ≡ true
-unfolding numbersOf refusals callRows
-refused-by-number t bytes n e =
-    let w = was-refused t bytes n e in
-    rw (w .1) at (one-of-them (refusals t bytes) (w .0))
-
--- where the rules hold it is not 9: of the rows that are left, none has that number
-pub not-nine : (t : Tables) (bytes : List ℕ) → rulesHold t ≡ true → stepOf t bytes .outcome ≢ Refused 9
-unfolding numbersOf refusals callRows firstOf _among_
-not-nine t bytes h e =
-    let w = was-refused t bytes 9 e in
-    let l = 10 when (not (eqb (length bytes) 16)) ∷ callRows (read t) (callOf bytes) in
-    let nine : firstOf l ≡ 9 = rw h at (w .1) in
-    let m : 9 among numbersOf l ≡ true = rw nine at (one-of-them l (λ z. omega (arith, z, nine))) in
-    true≢false (sym m)
+  -- "no accepted answer carries a zero result": it is 1
+  pub no-zero-written : refusalOf (writeOf d buffer .outcome) ≡ 0 → resultOf (writeOf d buffer .outcome) ≡ 1
+  no-zero-written e = ⊎-elim (λ z. absurd (z .0 (rw (z .1) at e))) (λ z. rw (z .1)) write-definite

@@ -1,50 +1,33 @@
--- Demand 3: "From a loaded image, after any sequence of calls, refused ones included, the tables that demand 2 prescribes hold together." Each sentence is a theorem
--- of the tables t that are reached from an image, `Reached image t`; each cites a rule of the tables, all of which hold of them.
-use mathlib.Core.Path.{_≡_, refl, sym, ap, _∙_}
+-- Demand 3: "From a loaded image, after any sequence of calls, refused ones included, the tables that demand 2 prescribes hold together." Each sentence is a theorem of the tables t
+-- that are reached from an image, `Reached image t`. Here: places, threads, core, and who waits; who is linked is in Aborted, who runs in Dispatched.
 use mathlib.Core.Bool.{true, false}
-use mathlib.Core.Logic.{_≢_, _⊎_, ⊎-elim}
-use mathlib.Core.List.{List, [], _∷_, _++_}
-use Prim.Native.Nat.{ℕ, _≤_, _<_}
-use lib.ListN.{length, getD}
-use Rattle.threads.specs.Threads.{count, lst, Sound}
-use Rattle.threads.proofs.Lists.{tested}
-use Rattle.threads.proofs.Read.{next-of, prev-of}
-use Rattle.words.specs.Words.{if_then_else_, oneTo, _among_, howMany, each, has}
-use Rattle.words.specs.Rows.{firstOf}
-use Rattle.image.specs.declared.Outcome.the-variants.{Refused, Accepted}
+use mathlib.Core.Path.{_≡_, refl}
+use mathlib.Core.Logic.{_≢_, _↔_}
+use mathlib.Core.List.{List, [], _∷_}
+use Prim.Native.Nat.{ℕ, _+_, _-_, _≤_, _<_}
+use native.Mathlib.Omega.{arith}
+use lib.ListN.{getD}
+use lib.Bits.{bitAnd}
+use lib.Dec.{eqb}
+use Rattle.threads.specs.Threads.{lst, count, counts, Sound}
+use Rattle.threads.proofs.Read.{last-of}
+use Rattle.words.specs.Words.{if_then_else_, oneTo, _among_, howMany, has, size}
+use Rattle.image.specs.declared.Outcome.the-variants.{Refused}
 use Rattle.tables.specs.declared.Tables.{Tables}
-use Rattle.tables.specs.Blocks.{Free, Running, Queued, OnChannel}
-use Rattle.tables.specs.State.{State, eventQueue, coreQueue, readyQueue, channelQueue, node, taskAt, requestAt, poolAt, queue, levelOf, unitsOf, withRunning, read}
-use Rattle.calls.specs.Calls.{callOf, needsTask}
-use Rattle.pools.specs.Pools.{startOf}
-use Rattle.meaning.specs.Conditions.{enough}
-use Rattle.meaning.specs.Finish.{aborted}
-use Rattle.meaning.specs.Rules.{queueFor, holdsUnit, upward, rulesHold}
-use Rattle.meaning.specs.Refusals.{refusals}
-use Rattle.meaning.specs.Services.{effect}
-use Rattle.meaning.specs.Step.{refused, accepted, stepOf}
+use Rattle.tables.specs.Blocks.{Free, Running, Ending, Queued, OnChannel, Done}
+use Rattle.tables.specs.State.{State, eventQueue, coreQueue, channelQueue, node, taskAt, requestAt, poolAt, queue, levelOf, unitsOf, read}
+use Rattle.meaning.specs.Rules.{queueFor, holdsUnit, rulesHold}
+use Rattle.meaning.specs.Step.{stepOf}
 use Rattle.lawful.specs.Shape.{one, bit, placeOf}
 use Rattle.lawful.specs.Resting.{Lawful}
-use Rattle.lawful.specs.Tables.{Reached}
-use Rattle.lawful.specs.Taken.{taken, takenBy}
-use Rattle.lawful.proofs.Chains.{chain-ends, each-once}
+use Rattle.lawful.specs.Reached.{Reached}
+use Rattle.lawful.proofs.Bits.{bit-le}
+use Rattle.lawful.proofs.Members.{level-best, level-worst, member-some, member-low, channel-high, channel-low}
 use Rattle.lawful.proofs.Corollaries.{units-make, runs-apart}
-use Rattle.lawful.proofs.Newly.{First, newly-first}
-use Rattle.lawful.proofs.Stays.{effect-puts, newly, undisturbed}
-use Rattle.lawful.proofs.Taken.{at-most, each-taken-once, check-takes, the-chain as chain, none-cut as cuts-none}
 use Rattle.lawful.proofs.Steps.{reached-lawful, reached-rules}
-use Rattle.demands.proofs.Answered.{was-accepted, ends-accepted, not-nine}
-
--- who runs after a step of any tables
-running-new : (t : Tables) (bytes : List ℕ) → let u = stepOf t bytes .tables in u .running ≢ t .running → u .running ≢ 0 → First (effect (read t) (callOf bytes) .state) (u .running)
-unfolding stepOf accepted refused
-running-new t bytes =
-    ⊎-elim (λ z. rw (z .0) (newly (read t) (callOf bytes))) (λ z. rw (z .0) (λ n d. absurd (n refl))) (tested (firstOf (refusals t bytes)) 0)
-
-running-stays : (t : Tables) (bytes : List ℕ) → needsTask (callOf bytes .code) ≡ false → t .running ≢ 0 → stepOf t bytes .tables .running ≡ t .running
-unfolding stepOf accepted refused
-running-stays t bytes n d =
-    ⊎-elim (λ z. rw (z .0) (undisturbed (read t) (callOf bytes) n d)) (λ z. rw (z .0)) (tested (firstOf (refusals t bytes)) 0)
+use Rattle.lawful.proofs.Never.{not-nine}
+use Rattle.lawful.proofs.Plain.{same-where, has-where, too-few, no-run}
+use Rattle.lawful.proofs.Agree.{none-behind, none-ahead, both-ways, names-blocks, first-ends, last-ends, begins, ends}
 
 module _ (image : List ℕ) {t : Tables} (reached : Reached image t) where
   abbrev s : State
@@ -60,53 +43,93 @@ module _ (image : List ℕ) {t : Tables} (reached : Reached image t) where
   pub never-nine : (bytes : List ℕ) → stepOf t bytes .outcome ≢ Refused 9
   never-nine bytes = not-nine t bytes hold-together
 
-  -- ---- "Each task .. block is in exactly one place": a task block stands in the queue of its place and in no other, runs where its place is running, and is free
-  -- where its place is free
+  -- ---- "Each task .. block is in exactly one place": its place is one of the nine; it stands once in the queue of that place and level, and in no other queue; it runs where its
+  -- place is running, and is free where its place is free
   module _ (k : ℕ) (some : 1 ≤ k) (low : k ≤ 24) where
-    pub task-in-one-queue : (q : ℕ) → q < 9 → count k (queue s q) ≡ one (queueFor (taskAt s k .place) (levelOf s k)) q
+    pub task-place : taskAt s k .place ≤ Ending
+    task-place = lawful .shape .tasks k some low .fields .place
+
+    pub task-level : taskAt s k .place ≢ Free → (1 ≤ levelOf s k) × (levelOf s k ≤ 3)
     unfolding placeOf _among_
+    task-level used = (level-best (lawful .shape) some low used, level-worst (lawful .shape) some low used)
+
+    pub task-in-one-queue : (q : ℕ) → q < 9 → count k (queue s q) ≡ (if eqb (queueFor (taskAt s k .place) (levelOf s k)) q then 1 else 0)
+    unfolding placeOf _among_ one
     task-in-one-queue = lawful .shape .tasks k some low .queued
 
-    pub task-runs : one (t .running) k ≡ one (taskAt s k .place) Running
+    pub task-runs : (t .running ≡ k) ↔ (taskAt s k .place ≡ Running)
     unfolding placeOf _among_
-    task-runs = lawful .shape .tasks k some low .runs
+    task-runs = same-where (t .running) k (taskAt s k .place) Running (lawful .shape .tasks k some low .runs)
 
-    pub task-free : bit (t .freeTasks) k ≡ one (taskAt s k .place) Free
+    pub task-free : (has (t .freeTasks) k ≡ true) ↔ (taskAt s k .place ≡ Free)
     unfolding placeOf _among_
-    task-free = lawful .shape .tasks k some low .freeTasks
+    task-free = has-where (t .freeTasks) k (taskAt s k .place) Free (lawful .shape .tasks k some low .freeTasks)
 
-  -- "and request block is in exactly one place": in the channel queue where it is queued, in no other queue, on the channel or not, free or not
+  -- "and request block is in exactly one place": one of the four; once in the channel queue where it is queued, in no other queue, on the channel or not, free or not
   module _ (r : ℕ) (some : 1 ≤ r) (low : r ≤ 16) where
-    pub request-in-one-queue : count (node r) (queue s channelQueue) ≡ one (requestAt s r .place) Queued
+    pub request-place : requestAt s r .place ≤ Done
+    request-place = lawful .shape .requests r some low .kind
+
+    pub request-in-one-queue : count (node r) (queue s channelQueue) ≡ (if eqb (requestAt s r .place) Queued then 1 else 0)
+    unfolding one
     request-in-one-queue = lawful .shape .requests r some low .queued
 
     pub request-in-no-other : (q : ℕ) → q < 8 → count (node r) (queue s q) ≡ 0
     request-in-no-other = lawful .shape .requests r some low .others
 
-    pub request-on-channel : one (t .channel) r ≡ one (requestAt s r .place) OnChannel
-    request-on-channel = lawful .shape .requests r some low .runs
+    pub request-on-channel : (t .channel ≡ r) ↔ (requestAt s r .place ≡ OnChannel)
+    request-on-channel = same-where (t .channel) r (requestAt s r .place) OnChannel (lawful .shape .requests r some low .runs)
 
-    pub request-free : bit (t .freeRequests) r ≡ one (requestAt s r .place) Free
-    request-free = lawful .shape .requests r some low .freeRequests
+    pub request-free : (has (t .freeRequests) r ≡ true) ↔ (requestAt s r .place ≡ Free)
+    request-free = has-where (t .freeRequests) r (requestAt s r .place) Free (lawful .shape .requests r some low .freeRequests)
 
-  -- ---- "its threads agreeing forward and back": where z is behind y in a queue, y's forward pointer is z and z's back pointer is y; the first has none before it,
-  -- the last none behind it
+  -- and nothing else is in a place: queues hold blocks, and what runs or is on the channel is a block or none
+  pub queues-hold-tasks : (q y : ℕ) → q < 8 → 1 ≤ count y (queue s q) → (1 ≤ y) × (y ≤ 24)
+  queues-hold-tasks q y l c = (member-some (lawful .shape) y q l c, member-low (lawful .shape) y q l c)
+
+  pub channel-holds-requests : (y : ℕ) → 1 ≤ count y (queue s channelQueue) → (node 1 ≤ y) × (y ≤ node 16)
+  channel-holds-requests y c = (channel-high (lawful .shape) y c, channel-low (lawful .shape) y c)
+
+  pub runs-a-block : (t .running ≤ 24) × (t .channel ≤ 16)
+  runs-a-block = (lawful .shape .blank .running, lawful .shape .blank .channel)
+
+  -- ---- "its threads agreeing forward and back", of the pointers alone. Of two blocks y and z (task blocks 1 to 24, request blocks 25 to 40), z is behind y where y is before z; a
+  -- pointer names a block or none; and a block in no queue has no pointer
+  abbrev fwd : ℕ → ℕ
+  fwd y = getD (t .threads .fwd) y 0
+
+  abbrev back : ℕ → ℕ
+  back y = getD (t .threads .back) y 0
+
   pub threads : Sound (t .threads)
   threads = reached-lawful image reached .pointers
 
-  pub forward : (q : ℕ) → q < 9 → (a b : List ℕ) (y z : ℕ) → queue s q ≡ a ++ y ∷ z ∷ b → getD (t .threads .fwd) y 0 ≡ z
-  forward q l a b y z e = next-of (t .threads) threads q l a (z ∷ b) y e
+  pub agree : (y z : ℕ) → 1 ≤ y → y ≤ 40 → 1 ≤ z → z ≤ 40 → (fwd y ≡ z) ↔ (back z ≡ y)
+  agree = both-ways (t .threads) threads
 
-  pub backward : (q : ℕ) → q < 9 → (a b : List ℕ) (y z : ℕ) → queue s q ≡ a ++ y ∷ z ∷ b → getD (t .threads .back) z 0 ≡ y
-  backward q l a b y z e = prev-of (t .threads) threads q l (a ++ y ∷ []) b z (e ∙ sym (onto a)) ∙ last 0 a
-    where
-      onto : (a : List ℕ) → (a ++ y ∷ []) ++ z ∷ b ≡ a ++ y ∷ z ∷ b
-      onto [] = refl
-      onto (x ∷ a) = ap (λ (l : List ℕ). x ∷ l) (onto a)
+  pub name-blocks : (y : ℕ) → y ≤ 40 → (fwd y ≤ 40) × (back y ≤ 40)
+  name-blocks = names-blocks (t .threads) threads
 
-      last : (p : ℕ) (a : List ℕ) → lst p (a ++ y ∷ []) ≡ y
-      last p [] = refl
-      last p (x ∷ a) = last x a
+  pub none : (y : ℕ) → 1 ≤ y → y ≤ 40 → counts y (s .queues) ≡ 0 → (fwd y ≡ 0) × (back y ≡ 0)
+  none y some low out = (none-behind (t .threads) threads y some low out, none-ahead (t .threads) threads y some low out)
+
+  -- the first of a queue has none before it, and no other block of a queue has; the last has none behind it, and no other
+  module _ (q : ℕ) (low : q < 9) where
+    pub none-before-first : back (getD (t .threads .first) q 0) ≡ 0
+    none-before-first = first-ends (t .threads) threads q low
+
+    pub none-behind-last : fwd (getD (t .threads .last) q 0) ≡ 0
+    none-behind-last = last-ends (t .threads) threads q low
+
+    pub last-is-last : getD (t .threads .last) q 0 ≡ lst 0 (queue s q)
+    last-is-last = last-of (t .threads) threads q low
+
+  module _ (y : ℕ) (in-queue : 1 ≤ counts y (s .queues)) where
+    pub only-first : back y ≡ 0 → (q : ℕ) × (q < 9) × (getD (t .threads .first) q 0 ≡ y)
+    only-first = begins (t .threads) threads y in-queue
+
+    pub only-last : fwd y ≡ 0 → (q : ℕ) × (q < 9) × (getD (t .threads .last) q 0 ≡ y)
+    only-last = ends (t .threads) threads y in-queue
 
   -- ---- "Core runs of a level are disjoint and with its free units make 64": no unit is in the runs of two tasks; and each of the 64 units is in one run, or free
   pub runs-disjoint : (i j level u : ℕ) → 1 ≤ i → i ≤ 24 → 1 ≤ j → j ≤ 24 → holdsUnit s level u i ≡ true → holdsUnit s level u j ≡ true → i ≡ j
@@ -115,57 +138,11 @@ module _ (image : List ℕ) {t : Tables} (reached : Reached image t) where
   pub make-64 : (level u : ℕ) → 1 ≤ level → level ≤ 3 → u < 64 → howMany (holdsUnit s level u) (oneTo 24) ≡ (if has (poolAt s level) u then 1 else 0)
   make-64 level u lo hi l = units-make (lawful .shape) level u lo hi
 
-  -- ---- "LINK parents never form a ring, so an abort takes at most 24 tasks, each once": 24 steps above a task is none, and no task is met twice on the way
-  pub no-ring : (k : ℕ) → 1 ≤ k → k ≤ 24 → upward s 24 k ≡ 0
-  no-ring = chain-ends (lawful .shape)
+  -- ---- "No event waiter's condition already holds": of its set fewer events are on than it waits for
+  pub no-condition-holds : (k : ℕ) → 1 ≤ count k (queue s eventQueue) → size (bitAnd (taskAt s k .events) (t .on)) < taskAt s k .count
+  no-condition-holds = too-few lawful
 
-  pub none-twice : (i j k : ℕ) → k ≤ 24 → i < j → upward s j k ≢ 0 → upward s j k ≢ upward s i k
-  none-twice = each-once (lawful .shape)
-
-  -- the tasks that a program check takes are the running one and those above it, as the tables have them; it takes them in turn, each once; and a bound above 24 would
-  -- give the same
-  pub abort-takes : (bytes : List ℕ) → callOf bytes .code ≡ 34 → effect s (callOf bytes) .state ≡ each taken (takenBy 24 (t .running) (withRunning s 0)) (withRunning s 0)
-  abort-takes bytes e = check-takes s (callOf bytes) e
-
-  pub the-chain : (i : ℕ) → getD (takenBy 24 (t .running) (withRunning s 0)) i 0 ≡ upward s i (t .running)
-  the-chain = chain lawful
-
-  pub at-most-24 : length (takenBy 24 (t .running) (withRunning s 0)) ≤ 24
-  at-most-24 = at-most 24 (t .running) (withRunning s 0)
-
-  pub taken-once : (y : ℕ) → count y (takenBy 24 (t .running) (withRunning s 0)) ≤ 1
-  taken-once = each-taken-once lawful
-
-  pub none-cut : (n : ℕ) → 24 ≤ n → aborted n (t .running) (withRunning s 0) ≡ aborted 24 (t .running) (withRunning s 0)
-  none-cut = cuts-none lawful
-
-  -- ---- "The processor is idle only if nothing is ready"
-  pub idle-only : t .running ≡ 0 → (level : ℕ) → 1 ≤ level → level ≤ 3 → queue s (readyQueue level) ≡ []
-  idle-only = lawful .busy .busy
-
-  -- ---- "each task newly dispatched is the first of the best level that is ready": a call itself puts nobody on the processor, and who runs after it and did not
-  -- before is the first of the best level that is ready once the call has done its work
-  pub none-put-on : (bytes : List ℕ) → let left = effect s (callOf bytes) .state in (left .running ≡ t .running) ⊎ (left .running ≡ 0)
-  none-put-on bytes = effect-puts s (callOf bytes) .none-on
-
-  pub newly-dispatched : (bytes : List ℕ) → let u = stepOf t bytes .tables in u .running ≢ t .running → u .running ≢ 0 → First (effect s (callOf bytes) .state) (u .running)
-  newly-dispatched bytes = running-new t bytes
-
-  -- and of one that stops and runs again: it too was the first
-  pub dispatched-first : (bytes : List ℕ) (r : ℕ) → stepOf t bytes .outcome ≡ Accepted r → let left = effect s (callOf bytes) .state in
-      (stepOf t bytes .tables .running ≡ left .running) ⊎ ((left .running ≡ 0) × First left (stepOf t bytes .tables .running))
-  unfolding accepted
-  dispatched-first bytes r e = rw (ends-accepted t bytes (was-accepted t bytes r e .0)) (newly-first (effect s (callOf bytes) .state))
-
-  -- ---- Document 01: "an interrupt never takes the processor from a running background task". All but a program check, which aborts it.
-  pub never-taken : (bytes : List ℕ) → needsTask (callOf bytes .code) ≡ false → t .running ≢ 0 → stepOf t bytes .tables .running ≡ t .running
-  never-taken bytes = running-stays t bytes
-
-  -- ---- "No event waiter's condition already holds"
-  pub no-condition-holds : (k : ℕ) → 1 ≤ count k (queue s eventQueue) → enough s (taskAt s k .count) (taskAt s k .events) ≡ false
-  unfolding count
-  no-condition-holds k w = lawful .rest .asleep .asleep k w refl
-
-  -- ---- "and no first waiter for core would fit": the lowest start for its units is past the last
-  pub no-first-fits : (level : ℕ) → 1 ≤ level → level ≤ 3 → (k : ℕ) (behind : List ℕ) → queue s (coreQueue level) ≡ k ∷ behind → 64 ≤ startOf (poolAt s level) (unitsOf s k)
-  no-first-fits level lo hi k behind e = lawful .rest .stuck level lo hi .stuck k behind e
+  -- ---- "and no first waiter for core would fit": no run of its length that lies in the pool is free of granted units
+  pub no-first-fits : (level : ℕ) → 1 ≤ level → level ≤ 3 → (k : ℕ) (behind : List ℕ) → queue s (coreQueue level) ≡ k ∷ behind
+      → (a : ℕ) → a + unitsOf s k ≤ 64 → ((u : ℕ) → a ≤ u → u < a + unitsOf s k → has (poolAt s level) u ≡ false) → ⊥
+  no-first-fits = no-run lawful

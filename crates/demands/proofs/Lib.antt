@@ -1,3 +1,6 @@
 pub mod Answered
+pub mod Exact
 pub mod Kept
+pub mod Aborted
+pub mod Dispatched
 pub mod Overtakes

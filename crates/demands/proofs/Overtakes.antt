@@ -10,7 +10,7 @@ use Rattle.calls.specs.Calls.{callOf}
 use Rattle.meaning.specs.Refusals.{refusals}
 use Rattle.meaning.specs.Step.{refused, accepted, stepOf}
 use Rattle.lawful.specs.InTurn.{InTurn}
-use Rattle.lawful.specs.Tables.{Reached}
+use Rattle.lawful.specs.Reached.{Reached}
 use Rattle.lawful.proofs.Accepted.{accepts, rows-left}
 use Rattle.lawful.proofs.Keeps.{keeps}
 use Rattle.lawful.proofs.Overtakes.{none-overtakes}

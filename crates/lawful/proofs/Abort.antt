@@ -54,7 +54,7 @@ module _ {s : State} {k : ℕ} (i : InHand s k [] 0) (r : Rest s []) (u : 1 ≤ 
   pub alone : taskAt s k .parent ≡ 0 → InHand (unlinked s k) k [] 0
   alone z = record { some = i .some; low = i .low; out = i .out; shape = unlink (i .shape) k (i .some) (i .low) z }
 
-  end-alone : taskAt s k .parent ≡ 0 → Finishes (unlinked s k) (ended (unlinked s k) k) k [] []
+  pub end-alone : taskAt s k .parent ≡ 0 → Finishes (unlinked s k) (ended (unlinked s k) k) k [] []
   end-alone z = ends (alone z) (unlink-rest (i .shape) k (i .some) (i .low) z r) (lone-needs (i .shape))
 
   -- with a parent, which is taken into the hand

@@ -26,7 +26,7 @@ use Rattle.lawful.specs.Accepts.{Accepts}
 use Rattle.lawful.proofs.Truth.{both, and-of}
 
 -- ---- Tests that fail.
-and-fails : (a b : Bool) → (a && b) ≡ false → a ≡ true → b ≡ false
+pub and-fails : (a b : Bool) → (a && b) ≡ false → a ≡ true → b ≡ false
 and-fails true b e f = e
 and-fails false b e f = absurd (true≢false (sym f))
 
@@ -57,7 +57,7 @@ used-block {s} g r n = (
 
 module _ (s : State) (c : Call) (e : firstOf (callRows s c) ≡ 0) where
   -- the rows, one by one
-  rows : (not (known (c .code)) ≡ false) × ((needsTask (c .code) && eqb (s .running) 0) ≡ false)
+  pub rows : (not (known (c .code)) ≡ false) × ((needsTask (c .code) && eqb (s .running) 0) ≡ false)
       × ((c .code among (5 ∷ 7 ∷ 35 ∷ []) && leb (s .directory .modules) (c .number)) ≡ false)
       × ((c .code among (9 ∷ 10 ∷ []) && undefined s (c .number)) ≡ false)
       × ((c .code among (13 ∷ 14 ∷ []) && ltb 249 (c .number)) ≡ false)

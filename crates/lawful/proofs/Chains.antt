@@ -100,6 +100,11 @@ module _ {s : State} {h : List ℕ} {e : ℕ} (g : Shape s h e) where
   each-once zero (suc j) k b l d = λ z. omega (arith, climbs j k b d, ap (g .ranked .rank) z)
   each-once (suc i) (suc j) k b l d = each-once i j (taskAt s k .parent) (parent-low k b) (omega (arith, l)) d
 
+  -- so one does not come back
+  pub no-return : (k n : ℕ) → 1 ≤ k → k ≤ 24 → 1 ≤ n → upward s n k ≢ k
+  unfolding upward
+  no-return k n a b l z = each-once 0 n k b l (λ i. omega (arith, sym z ∙ i, a)) z
+
 -- ---- As a test.
 module _ (s : State) where
   depth : ℕ → ℕ → ℕ

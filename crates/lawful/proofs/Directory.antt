@@ -37,6 +37,9 @@ module _ (d : Directory) (e : directoryPasses d ≡ true) where
       let c = both _ _ (b .0) in
       (leb-true 1 (x .level) (c .0), leb-true (x .level) 3 (c .1), leb-true (x .units) 64 (b .1))
 
+  pub modules-some : 1 ≤ d .modules
+  modules-some = leb-true 1 (d .modules) (both (leb 1 (d .modules)) (leb (d .modules) 32) (rows .0) .0)
+
   pub passing : Passing d
   passing =
       record {

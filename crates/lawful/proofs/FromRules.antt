@@ -39,11 +39,25 @@ use Rattle.lawful.proofs.Pendings.{pending-at, pending-of, pending-some
 use Rattle.lawful.proofs.Bits.{bit-of, and-within}
 
 -- the i-th of a list of tests
-each-at : (l : List Bool) → allTrue l ≡ true → (i : ℕ) → getD l i true ≡ true
+pub each-at : (l : List Bool) → allTrue l ≡ true → (i : ℕ) → getD l i true ≡ true
 unfolding allTrue
 each-at [] e i = refl
 each-at (b ∷ l) e zero = both b (allTrue l) e .0
 each-at (b ∷ l) e (suc i) = each-at l (both b (allTrue l) e .1) i
+
+-- "The free blocks are sets"
+pub sets-of : (s : State) → freeSets s ≡ true
+    → (everyTask (λ k. Bool·beq (has (s .freeTasks) k) (eqb (taskAt s k .place) Free)) ≡ true)
+    × (everyRequest (λ r. Bool·beq (has (s .freeRequests) r) (eqb (requestAt s r .place) Free)) ≡ true)
+    × (ltb (s .freeTasks) (2 ^ 25) ≡ true) × (not (has (s .freeTasks) 0) ≡ true) × (ltb (s .freeRequests) (2 ^ 17) ≡ true) × (not (has (s .freeRequests) 0) ≡ true)
+unfolding freeSets
+sets-of s e =
+    let a = both _ _ e in
+    let b = both _ _ (a .0) in
+    let c = both _ _ (b .0) in
+    let d = both _ _ (c .0) in
+    let f = both _ _ (d .0) in
+    (f .0, f .1, d .1, c .1, b .1, a .1)
 
 module _ (s : State) (z : Sizes s) (low : (level : ℕ) → poolAt s level < 2 ^ 64) (u : Apart (s .queues)) (e : allTrue (stateRules s) ≡ true) where
   -- ---- The tests of every block, and those of the whole.
@@ -60,14 +74,8 @@ module _ (s : State) (z : Sizes s) (low : (level : ℕ) → poolAt s level < 2 ^
   sets : (everyTask (λ k. Bool·beq (has (s .freeTasks) k) (eqb (taskAt s k .place) Free)) ≡ true)
       × (everyRequest (λ r. Bool·beq (has (s .freeRequests) r) (eqb (requestAt s r .place) Free)) ≡ true)
       × (ltb (s .freeTasks) (2 ^ 25) ≡ true) × (not (has (s .freeTasks) 0) ≡ true) × (ltb (s .freeRequests) (2 ^ 17) ≡ true) × (not (has (s .freeRequests) 0) ≡ true)
-  unfolding stateRules freeSets
-  sets =
-      let a = both _ _ (each-at (stateRules s) e 5) in
-      let b = both _ _ (a .0) in
-      let c = both _ _ (b .0) in
-      let d = both _ _ (c .0) in
-      let f = both _ _ (d .0) in
-      (f .0, f .1, d .1, c .1, b .1, a .1)
+  unfolding stateRules
+  sets = sets-of s (each-at (stateRules s) e 5)
 
   clears : (everyTask (λ k. clearTask (unitsOf s k) (taskAt s k)) ≡ true) × (everyRequest (λ r. clearRequest (requestAt s r)) ≡ true)
       × (blankTask (taskAt s 0) ≡ true) × (blankRequest (requestAt s 0) ≡ true) × (eqb (poolAt s 0) 0 ≡ true)

@@ -33,6 +33,16 @@ record Kept (e : Effect) : Type 0 where
 pick : (a n : ℕ) {x y : Effect} → (a ≡ n → Kept x) → (a ≢ n → Kept y) → Kept (if eqb a n then x else y)
 pick a n f g = ⊎-elim (λ z. rw (z .0) (f (z .1))) (λ z. rw (z .0) (g (z .1))) (tested a n)
 
+no : (c : Call) (n : ℕ) → c .code ≢ n → eqb n (c .code) ≡ false
+no c n d = ne-eqb n (c .code) (λ z. d (sym z))
+
+-- a known call of no other code is operator start
+pub known-last : (c : Call) → known (c .code) ≡ true → c .code ≢ 1 → c .code ≢ 5 → c .code ≢ 6 → c .code ≢ 7 → c .code ≢ 8 → c .code ≢ 9 → c .code ≢ 10 → c .code ≢ 12 → c .code ≢ 13
+    → c .code ≢ 14 → c .code ≢ 15 → c .code ≢ 32 → c .code ≢ 33 → c .code ≢ 34 → c .code among (5 ∷ 7 ∷ 35 ∷ []) ≡ true
+unfolding known _among_
+known-last c k n1 n5 n6 n7 n8 n9 n10 n12 n13 n14 n15 n32 n33 n34 =
+    rw (no c 5 n5, no c 7 n7) (rw (no c 1 n1, no c 5 n5, no c 6 n6, no c 7 n7, no c 8 n8, no c 9 n9, no c 10 n10, no c 12 n12, no c 13 n13, no c 14 n14, no c 15 n15, no c 32 n32, no c 33 n33, no c 34 n34) at k)
+
 module _ {s : State} {c : Call} (g : Lawful s) (a : Accepts s c) where
   pub needs : (n : ℕ) → needsTask n ≡ true → c .code ≡ n → s .running ≢ 0
   needs n e z = a .running (ap needsTask z ∙ e)
@@ -48,15 +58,9 @@ module _ {s : State} {c : Call} (g : Lawful s) (a : Accepts s c) where
   starts : c .code among (5 ∷ 7 ∷ 35 ∷ []) ≡ true → Settled (operatorStart s c .state)
   starts o = start-keeps c g (a .program o) (a .block o)
 
-  no : (n : ℕ) → c .code ≢ n → eqb n (c .code) ≡ false
-  no n d = ne-eqb n (c .code) (λ z. d (sym z))
-
-  -- a call of no other code is operator start
   pub last : c .code ≢ 1 → c .code ≢ 5 → c .code ≢ 6 → c .code ≢ 7 → c .code ≢ 8 → c .code ≢ 9 → c .code ≢ 10 → c .code ≢ 12 → c .code ≢ 13 → c .code ≢ 14 → c .code ≢ 15
       → c .code ≢ 32 → c .code ≢ 33 → c .code ≢ 34 → c .code among (5 ∷ 7 ∷ 35 ∷ []) ≡ true
-  unfolding known _among_
-  last n1 n5 n6 n7 n8 n9 n10 n12 n13 n14 n15 n32 n33 n34 =
-      rw (no 5 n5, no 7 n7) (rw (no 1 n1, no 5 n5, no 6 n6, no 7 n7, no 8 n8, no 9 n9, no 10 n10, no 12 n12, no 13 n13, no 14 n14, no 15 n15, no 32 n32, no 33 n33, no 34 n34) at (a .known))
+  last = known-last c (a .known)
 
   effect-kept : Kept (effect s c)
   unfolding effect needsTask known _among_

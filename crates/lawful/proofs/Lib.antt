@@ -40,6 +40,8 @@ pub mod Finish
 pub mod Chains
 pub mod Abort
 pub mod Taken
+pub mod Others
+pub mod Gone
 pub mod Timer
 pub mod Channel
 pub mod IoDone
@@ -65,6 +67,12 @@ pub mod RestRules
 pub mod Pointers
 pub mod FromRules
 pub mod ToRules
--- Demand 3.
+-- Demands 1 and 3.
+pub mod Ends
 pub mod Results
 pub mod Steps
+-- What `demands` cites besides.
+pub mod Never
+pub mod Plain
+pub mod Agree
+pub mod After

@@ -10,17 +10,9 @@ use Rattle.threads.proofs.Lists.{tested}
 use Rattle.words.specs.Words.{isEmpty}
 use Rattle.tables.specs.State.{State, readyQueue, queue}
 use Rattle.meaning.specs.Ready.{bestReady, runsFirst, dispatched}
+use Rattle.lawful.specs.Reached.{First}
 use Rattle.lawful.proofs.Tests.{emptied, filled}
 use Rattle.lawful.proofs.Cases.{best-0, best-1, best-2, best-3, kept, none-ready, dispatches}
-
--- the task k is the first of the best level that is ready
-pub record First (s : State) (k : ℕ) : Type 0 where
-  pub level : ℕ
-  pub best : 1 ≤ level
-  pub worst : level ≤ 3
-  pub behind : List ℕ
-  pub first : queue s (readyQueue level) ≡ k ∷ behind
-  pub better : (l : ℕ) → 1 ≤ l → l < level → queue s (readyQueue l) ≡ []
 
 module _ (s : State) where
   at-level : (level : ℕ) → bestReady s ≡ level → 1 ≤ level → level ≤ 3 → isEmpty (queue s level) ≡ false → ((l : ℕ) → 1 ≤ l → l < level → queue s l ≡ [])

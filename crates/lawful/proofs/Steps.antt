@@ -9,7 +9,6 @@ use lib.ListN.{length, length-map}
 use borrow.Author.Tests.{eq-eqb}
 use Rattle.threads.specs.declared.Threads.{Threads}
 use Rattle.threads.specs.Threads.{queuesOf, threaded}
-use Rattle.threads.proofs.Lists.{tested}
 use Rattle.threads.proofs.Read.{read-back, sound}
 use Rattle.words.specs.Words.{allTrue}
 use Rattle.words.specs.Rows.{firstOf}
@@ -21,9 +20,10 @@ use Rattle.tables.specs.State.{State, read, tabled}
 use Rattle.calls.specs.Calls.{callOf}
 use Rattle.meaning.specs.Refusals.{refusals}
 use Rattle.meaning.specs.Rules.{directoryPasses, pointersSound, stateRules, rulesHold}
-use Rattle.meaning.specs.Step.{refused, accepted, stepOf, tablesOf}
+use Rattle.meaning.specs.Step.{accepted, stepOf, tablesOf}
 use Rattle.lawful.specs.Resting.{Lawful}
-use Rattle.lawful.specs.Tables.{Typed, LawfulTables, Reached, load, step}
+use Rattle.lawful.specs.Tables.{Typed, LawfulTables}
+use Rattle.lawful.specs.Reached.{Reached, load, step}
 use Rattle.lawful.proofs.Truth.{both, and-of}
 use Rattle.lawful.proofs.Pointers.{sound-of, of-sound}
 use Rattle.lawful.proofs.Corollaries.{shape-apart}
@@ -33,6 +33,7 @@ use Rattle.lawful.proofs.ToRules.{lawful-rules}
 use Rattle.lawful.proofs.Loaded.{load-lawful}
 use Rattle.lawful.proofs.Accepted.{accepts, rows-left}
 use Rattle.lawful.proofs.Keeps.{keeps}
+use Rattle.lawful.proofs.Ends.{step-ends, refused-leaves}
 
 -- ---- The test of the rules, and lawful tables.
 
@@ -80,9 +81,10 @@ tabled-lawful {s} g =
 -- ---- One step.
 
 pub step-lawful : (t : Tables) (bytes : List ℕ) → LawfulTables t → LawfulTables (stepOf t bytes .tables)
-unfolding stepOf accepted refused
+unfolding accepted
 step-lawful t bytes g =
-    ⊎-elim (λ z. rw (z .0) (tabled-lawful (keeps (g .state) (accepts (read t) (callOf bytes) (rows-left t bytes (z .1) .2) (g .state))))) (λ z. rw (z .0) g) (tested (firstOf (refusals t bytes)) 0)
+    ⊎-elim (λ z. rw (z .1, refused-leaves t (firstOf (refusals t bytes))) g)
+    (λ z. rw (z .1) (tabled-lawful (keeps (g .state) (accepts (read t) (callOf bytes) (rows-left t bytes (z .0) .2) (g .state))))) (step-ends t bytes)
 
 pub step-keeps : (t : Tables) (bytes : List ℕ) → Typed t → rulesHold t ≡ true → rulesHold (stepOf t bytes .tables) ≡ true
 step-keeps t bytes y e = tables-rules _ (step-lawful t bytes (rules-tables t y e))

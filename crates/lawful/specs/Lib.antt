@@ -2,5 +2,5 @@ pub mod Shape
 pub mod Resting
 pub mod Accepts
 pub mod Tables
-pub mod Taken
+pub mod Reached
 pub mod InTurn
