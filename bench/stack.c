@@ -1,7 +1,8 @@
 /* How much stack the exported functions take: each is called on a stack that
    was filled with one byte before, and what is not that byte afterwards was
-   used. The deepest call is a program check that aborts 24 tasks, each linked
-   to by the one before; the others are those of a working day. */
+   used. The calls are a program check that aborts 24 tasks, each linked to by
+   the one before, and those of a working day. It fails where a function takes
+   more than LIMIT bytes, so that a growth is noticed. */
 #define _XOPEN_SOURCE 600
 #include <stdio.h>
 #include <stdlib.h>
@@ -13,7 +14,8 @@
 #include "working.h"
 
 enum {
-    ROOM = 1 << 20,
+    ROOM = 1 << 18,
+    LIMIT = 40 << 10,
     FILL = 0xa5,
     NO_UNITS = 9,    /* a module of the station's image that needs no core */
     TASKS_IN_ALL = 24,
@@ -25,6 +27,11 @@ static ucontext_t here, there;
 static struct khilzurgee_tables tables;
 static uint8_t image[IMAGE_LENGTH], call[CALL_LENGTH];
 static struct khilzurgee_line answer;
+
+static void check(void)
+{
+    answer.refusal = khilzurgee_image_check(image, IMAGE_LENGTH);
+}
 
 static void load(void)
 {
@@ -79,6 +86,7 @@ int main(void)
     static struct working day;
     size_t none = used_by(nothing), most = 0;
     working_image(image);
+    size_t checking = used_by(check) - none;
     size_t loading = used_by(load) - none;
     called(OPERATOR_START, NO_UNITS);
     for (int i = 1; i < TASKS_IN_ALL; i++) {
@@ -92,7 +100,11 @@ int main(void)
         size_t used = used_by(advance) - none;
         most = used > most ? used : most;
     }
-    printf("stack, in bytes: a load %zu, the program check that aborts %d tasks %zu, another call of a working day up to %zu\n", loading, TASKS_IN_ALL,
-           abort, most);
+    printf("stack, in bytes: the image check %zu, a load %zu, the program check that aborts %d tasks %zu, a call of a working day up to %zu\n", checking,
+           loading, TASKS_IN_ALL, abort, most);
+    if (checking > LIMIT || loading > LIMIT || abort > LIMIT || most > LIMIT) {
+        fprintf(stderr, "bench: more than %d bytes of stack\n", LIMIT);
+        return 1;
+    }
     return 0;
 }
