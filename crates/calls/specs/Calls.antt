@@ -24,19 +24,6 @@ callOf b =
       events = number b 8 8;
     }
 
--- the number by which what arrived is refused, 0 for a call
-abbrev pub cutBy : Arrival → ℕ
-cutBy (Came c) = 0
-cutBy (Cut n) = n
-
--- what arrived, by this number and with this call
-abbrev pub arrivalOf : ℕ → Call → Arrival
-arrivalOf refusal c = if eqb refusal 0 then Came c else Cut refusal
-
--- "A call arrives as exactly 16 bytes"; "10 | not 16 bytes"
-unfoldable pub arrival : List ℕ → Arrival
-arrival b = arrivalOf (if eqb (length b) 16 then 0 else 10) (callOf b)
-
 -- "Service calls need a running task: 1 FREEMAIN, 5 LINK, 6 END, 7 SCHEDULE, 8 WAIT, 9 SIGNAL, 10 TEST EVENT, 12 DISPATCH CHECK, 13 READ,
 -- 14 WRITE, 15 CHECK."
 abbrev pub services : List ℕ
@@ -53,11 +40,26 @@ known code = code among services || code among interrupts
 unfoldable pub needsTask : ℕ → Bool
 needsTask code = code among services || eqb code 34
 
--- "A const array of 36 entries says known or unknown and whether a running task is needed": 0 unknown, 1 known, 2 known and needs one
-unfoldable pub codeEntry : ℕ → ℕ
-codeEntry code = if needsTask code then 2 else if known code then 1 else 0
-
 -- "An answer has three numbers: refusal (0 if accepted), result, running task afterwards (0 if idle)." A refused call "names the running task unchanged
 -- (0 with refusal 9)".
 unfoldable pub numbers : Outcome → ℕ → List ℕ
 numbers o running = refusalOf o ∷ resultOf o ∷ (if eqb (refusalOf o) 9 then 0 else running) ∷ []
+
+-- ==== Inside: words for contracts below the public face. What the executive, its library and the demands claim does not rest on them.
+
+-- the number by which what arrived is refused, 0 for a call
+abbrev pub cutBy : Arrival → ℕ
+cutBy (Came c) = 0
+cutBy (Cut n) = n
+
+-- what arrived, by this number and with this call
+abbrev pub arrivalOf : ℕ → Call → Arrival
+arrivalOf refusal c = if eqb refusal 0 then Came c else Cut refusal
+
+-- "A call arrives as exactly 16 bytes"; "10 | not 16 bytes"
+unfoldable pub arrival : List ℕ → Arrival
+arrival b = arrivalOf (if eqb (length b) 16 then 0 else 10) (callOf b)
+
+-- "A const array of 36 entries says known or unknown and whether a running task is needed": 0 unknown, 1 known, 2 known and needs one
+unfoldable pub codeEntry : ℕ → ℕ
+codeEntry code = if needsTask code then 2 else if known code then 1 else 0

@@ -14,12 +14,6 @@ use Rattle.image.specs.Answer.{outcomeOf}
 use Rattle.image.specs.Block.{checkOf}
 use Rattle.image.specs.Directory.{entryAt, directoryRows}
 
--- the fields that have one byte in an image fit one, as those of a directory that passes do
-pub record Small (d : Directory) : Type 0 where
-  pub modules : d .modules < 256
-  pub every : d .every < 256
-  pub flags : (m : ℕ) → m < 32 → entryAt d m .flags < 256
-
 -- "level, core units .., flags .., zero, entry point in 4 bytes": byte j of an entry
 unfoldable pub entryByte : Entry → ℕ → ℕ
 entryByte e j =
@@ -62,3 +56,11 @@ writeOf d buffer =
     let n = firstOf (writeRows d buffer) in
     if eqb n 0 then record { outcome = outcomeOf 0 1; buffer = imageOf d }
     else record { outcome = outcomeOf n 0; buffer = buffer }
+
+-- ==== Inside: words for contracts below the public face. What the executive, its library and the demands claim does not rest on them.
+
+-- the fields that have one byte in an image fit one, as those of a directory that passes do
+pub record Small (d : Directory) : Type 0 where
+  pub modules : d .modules < 256
+  pub every : d .every < 256
+  pub flags : (m : ℕ) → m < 32 → entryAt d m .flags < 256

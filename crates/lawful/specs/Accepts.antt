@@ -1,3 +1,4 @@
+-- ==== Inside: words for contracts below the public face. What the executive, its library and the demands claim does not rest on them.
 -- What the table of refusals leaves of a call that is accepted: what each row, where it does not apply, says of the call and the state.
 use mathlib.Core.Bool.{true}
 use mathlib.Core.Path.{_≡_}

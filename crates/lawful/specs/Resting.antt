@@ -1,3 +1,4 @@
+-- ==== Inside: words for contracts below the public face. What the executive, its library and the demands claim does not rest on them.
 -- The rules of document 01 that hold at rest, between calls, each by itself; with a list of those that are excused while a call is on its way.
 use mathlib.Core.Bool.{false}
 use mathlib.Core.Path.{_≡_}

@@ -1,3 +1,4 @@
+-- ==== Inside: words for contracts below the public face. What the executive, its library and the demands claim does not rest on them.
 -- The table rules of document 01 as records, over a state in which some task blocks are in hand: in no place, on the way from one to another.
 -- These are the rules that hold between any two small changes; those that hold at rest alone are in Resting.
 use mathlib.Core.Bool.{true, false, cond, _&&_}

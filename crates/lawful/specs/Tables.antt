@@ -1,3 +1,4 @@
+-- ==== Inside: words for contracts below the public face. What the executive, its library and the demands claim does not rest on them.
 -- Tables that follow the rules, and what the types of the tables say of them.
 use mathlib.Core.Path.{_≡_}
 use Prim.Native.Nat.{ℕ, _^_, _<_}

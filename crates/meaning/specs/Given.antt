@@ -1,3 +1,4 @@
+-- ==== Inside: words for contracts below the public face. What the executive, its library and the demands claim does not rest on them.
 -- What the code of an accepted call has to give.
 use mathlib.Core.Path.{_≡_}
 use Rattle.tables.specs.Held.{Shows}

@@ -1,3 +1,4 @@
+-- ==== Inside: words for contracts below the public face. What the executive, its library and the demands claim does not rest on them.
 -- Document 01, 'Conditions and getting ready': "no free run is long enough; otherwise it gets the units from the lowest start at which enough are free".
 use Prim.Native.Nat.{ℕ}
 use lib.Dec.{ltb}

@@ -1,3 +1,4 @@
+-- ==== Inside: words for contracts below the public face. What the executive, its library and the demands claim does not rest on them.
 -- What the code of the executive keeps between any two functions: what tables show, and what a function may ask of the tables that it is given.
 use mathlib.Core.Path.{_≡_}
 use Prim.Native.Nat.{ℕ, _≤_, _<_}

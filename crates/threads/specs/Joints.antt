@@ -1,3 +1,4 @@
+-- ==== Inside: words for contracts below the public face. What the executive, its library and the demands claim does not rest on them.
 -- What the code stores, cell by cell. The contracts of the functions inside cite it, and no public one does.
 use mathlib.Core.List.{List}
 use Prim.Native.Nat.{ℕ}

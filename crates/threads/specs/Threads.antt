@@ -93,6 +93,13 @@ pub record Sound (t : Threads) : Type 0 where
   pub apart : Apart (queuesOf t)
   pub canon : t ≡ threaded (queuesOf t)
 
+-- l without x
+unfoldable pub without : ℕ → List ℕ → List ℕ
+without x [] = []
+without x (a ∷ l) = if eqb a x then l else a ∷ without x l
+
+-- ==== Inside: words for contracts below the public face. What the executive, its library and the demands claim does not rest on them.
+
 -- t is sound, and ls are its lists: what a function promises of its result, which leaves one result alone (proofs/Unique.antt)
 pub record Holds (t : Threads) (ls : List (List ℕ)) : Type 0 where
   pub sound : Sound t
@@ -115,11 +122,6 @@ pub record Member (t : Threads) (q x : ℕ) : Type 0 where
   pub sound : Sound t
   pub queue : q < QUEUES
   pub here : 1 ≤ count x (getD (queuesOf t) q [])
-
--- l without x
-unfoldable pub without : ℕ → List ℕ → List ℕ
-without x [] = []
-without x (a ∷ l) = if eqb a x then l else a ∷ without x l
 
 -- l with x before b
 unfoldable pub insertBefore : ℕ → ℕ → List ℕ → List ℕ
