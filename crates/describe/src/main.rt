@@ -1,5 +1,6 @@
 // Says in plain words what a phase image holds: reads one from standard input, loads it, and tells by which number of document 01 it is refused,
-// or what is in it; then writes it back and tells whether the same bytes came out.
+// or what is in it; then writes it back and tells whether the same bytes came out. Where the input cannot be read or the output cannot be written, it says so
+// on standard error.
 //
 // It knows the image alone, and nothing of tables or calls.
 mod listing;
@@ -7,15 +8,24 @@ mod listing;
 use image::Directory;
 use image::Outcome;
 use libc::STDIN_FILENO;
+use lines::text;
 
 fn main() {
     // one byte more than an image has, so that a longer input is seen to be longer
     let mut input = [0u8; 513];
-    let got = io::read_full(STDIN_FILENO, &mut input);
-    describe(&input[..got]);
+    let got = pipes::take(STDIN_FILENO, &mut input);
+    if got.failed {
+        saying::unread();
+        return;
+    }
+    let n = got.count;
+    if !describe(&input[..n]) {
+        saying::unwritten();
+    }
 }
 
-fn describe(bytes: &[u8]) {
+// Each answer is false where a line could not be written.
+fn describe(bytes: &[u8]) -> bool {
     let loaded = image::load(bytes);
     let outcome = loaded.outcome;
     let found = loaded.directory;
@@ -25,21 +35,24 @@ fn describe(bytes: &[u8]) {
     }
 }
 
-fn refused(number: u8) {
-    saying::field(b"The image is refused by ", number as u64);
-    saying::text(b": ");
-    explain::refused::image(number);
-    saying::text(b".\n");
+fn refused(number: u8) -> bool {
+    let by = lines::field(lines::empty(), b"The image is refused by ", number as u64);
+    let why = explain::refused::image(text(by, b": "), number);
+    saying::line(text(why, b"."))
 }
 
-fn accepted(found: Directory, bytes: &[u8]) {
-    saying::text(b"The image is accepted.\n");
-    listing::directory(found);
+fn accepted(found: Directory, bytes: &[u8]) -> bool {
+    let one = saying::line(text(lines::empty(), b"The image is accepted."));
+    let two = listing::directory(found);
     let mut back = [0u8; 512];
     image::write(found, &mut back);
-    if check::same(&back, bytes) {
-        saying::text(b"Written back, it gives the same 512 bytes.\n");
+    let three = if check::same(&back, bytes) {
+        saying::line(text(
+            lines::empty(),
+            b"Written back, it gives the same 512 bytes.",
+        ))
     } else {
-        saying::text(b"Written back, it gives other bytes.\n");
-    }
+        saying::line(text(lines::empty(), b"Written back, it gives other bytes."))
+    };
+    one & two & three
 }

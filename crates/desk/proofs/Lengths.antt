@@ -1,4 +1,4 @@
--- The arrays of a line and of what was taken are as long as their types say: whoever holds such a struct knows it.
+-- The array of what was taken is as long as its type says: whoever holds such a struct knows it.
 use mathlib.Core.Path.{_≡_, sym, _∙_}
 use mathlib.Core.List.{List}
 use lib.ListN.{length, length-map}
@@ -6,14 +6,8 @@ use mir.Val.{Val}
 use denote.Laws.{Is}
 use denote.Struct.Laws as LL
 use Rattle.desk.specs.declared.Taken.{Taken}
-use Rattle.desk.specs.declared.line.Line.{Line}
 use Rattle.desk.proofs.Taken as K
 use Rattle.desk.proofs.Taken.Laws as K′
-use Rattle.desk.proofs.line.Line as L
-use Rattle.desk.proofs.line.Line.Laws as L′
-
-pub line-long : (l : Line) (vs : List Val) → Is L.the-row l vs → length (l .bytes) ≡ 12
-line-long l vs is = sym (length-map (l .bytes) (λ v. v)) ∙ LL.owed L.the-type L′.the-laws l vs is .0 .1 .0 .1
 
 pub taken-long : (c : Taken) (vs : List Val) → Is K.the-row c vs → length (c .bytes) ≡ 16
 taken-long c vs is = sym (length-map (c .bytes) (λ v. v)) ∙ LL.owed K.the-type K′.the-laws c vs is .0 .1 .0 .1

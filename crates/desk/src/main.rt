@@ -1,15 +1,15 @@
 // The desk: reads an image and then calls from standard input, and writes a line for the load and one for each call: refusal, result, running task.
-// With `--explain` each line goes on with the same in words.
+// With `--explain` each line goes on with the same in words. Where the input cannot be read or the output cannot be written, it says so on standard error,
+// with how many calls were answered.
 //
 // It answers for 'A session in full' of document 01. It keeps one set of tables, which `executive::advance` changes where they lie.
-mod line;
-
 use calls::Answer;
 use libc::STDERR_FILENO;
 use libc::STDIN_FILENO;
-use libc::STDOUT_FILENO;
+use lines::Line;
 use tables::Tables;
 ghost use Prim.Native.Nat.{_≤_};
+ghost use Rattle.desk.specs.Told.{Told};
 
 // What was read of one call: the bytes, and how many of the 16 came before the input ended.
 pub struct Taken {
@@ -18,98 +18,118 @@ pub struct Taken {
 }
 
 fn main() {
-    if os::arg_count() < 2 {
+    let words = os::arg_count();
+    if words < 2 {
         open(false);
         return;
     }
     let mut word = [0u8; 9];
     let n = os::arg(1, &mut word);
-    if check::same(&word[..n], b"--explain") {
+    let known = check::same(&word[..n], b"--explain");
+    if known & (words == 2) {
         open(true);
     } else {
-        io::write_all(STDERR_FILENO, b"usage: desk [--explain]\n");
+        pipes::give(STDERR_FILENO, b"usage: desk [--explain]\n");
     }
 }
 
 // Reads the image: 512 bytes, or what there is.
 fn open(words: bool) {
     let mut image = [0u8; 512];
-    let got = io::read_full(STDIN_FILENO, &mut image);
-    session(&image[..got], words);
+    let got = pipes::take(STDIN_FILENO, &mut image);
+    if got.failed {
+        saying::unread_after(0);
+        return;
+    }
+    let n = got.count;
+    session(&image[..n], words);
 }
 
 // The load, and the calls where it is accepted.
 fn session(image: &[u8], words: bool) {
     let begun = executive::load(image);
     let answer = executive::line(begun);
-    let written = if words {
-        say(answer, b' ');
-        saying::text(b" ");
-        explain::load(answer);
-        saying::end_line()
-    } else {
-        say(answer, b'\n')
-    };
-    if written & (answer.refusal == 0) {
+    if !saying::line(opening(answer, words)) {
+        saying::unwritten_after(0);
+        return;
+    }
+    if answer.refusal == 0 {
         let tables = begun.tables;
         serve(tables, words);
     }
 }
 
-// The desk loop: it lends the tables to `advance`, call by call. A proved loop has to end, and nothing says that the input does: it counts its turns
-// down, from a number that no session uses up.
+// The desk loop: it lends the tables to `advance`, call by call. A proved loop has to end, and nothing says that the input does: it counts the calls that it
+// has answered, up to a number that no session reaches.
 fn serve(start: Tables, words: bool) {
     let mut tables = start;
-    let mut turns = u64::MAX;
-    while turns > 0 {
-        turns -= 1;
-        let call = take();
+    let mut answered: u64 = 0;
+    while answered < u64::MAX {
+        let call = take(answered);
         let bytes = call.bytes;
         let n = call.count;
         if n == 0 {
             break;
         }
         let answer = executive::advance(&mut tables, &bytes[..n]);
-        let over = report(call, answer, words);
+        let over = report(call, answer, words, answered);
         if over {
             break;
         }
+        answered += 1;
     }
 }
 
-// Reads the next call: 16 bytes, or what is left.
-fn take() -> Taken
+// Reads the next call: 16 bytes, or what is left. Where the input cannot be read that is said, and there is no call.
+fn take(answered: u64) -> Taken
     ensures { λ r. ⌜ r .count ≤ 16 ⌝ }
 {
     let mut bytes = [0u8; 16];
-    let count = io::read_full(STDIN_FILENO, &mut bytes);
+    let got = pipes::take(STDIN_FILENO, &mut bytes);
+    if got.failed {
+        saying::unread_after(answered);
+        return Taken {
+            bytes: bytes,
+            count: 0,
+        };
+    }
     Taken {
         bytes: bytes,
-        count: count,
+        count: got.count,
     }
 }
 
-// Writes the line of an answered call. True where the session is over: the call was the short last one, or the line could not be written.
-fn report(call: Taken, answer: Answer, words: bool) -> bool
+// Writes the line of an answered call. True where the session is over: the call was the short last one, or the line could not be written, which is said.
+fn report(call: Taken, answer: Answer, words: bool, answered: u64) -> bool
     requires { ⌜ call .count ≤ 16 ⌝ }
 {
     let bytes = call.bytes;
     let n = call.count;
-    let written = if words {
-        say(answer, b' ');
-        saying::text(b" ");
-        explain::call(&bytes[..n], answer);
-        saying::end_line()
-    } else {
-        say(answer, b'\n')
-    };
-    (n < 16) | !written
+    if saying::line(told(&bytes[..n], answer, words)) {
+        return n < 16;
+    }
+    saying::unwritten_after(answered);
+    true
 }
 
-// Writes the three numbers, and a byte behind them, in one piece; false where it could not be written.
-fn say(a: Answer, after: u8) -> bool {
-    let l = line::spelled(a, after);
-    let bytes = l.bytes;
-    let n = l.used;
-    io::write_all(STDOUT_FILENO, &bytes[..n])
+// The line of the load.
+fn opening(answer: Answer, words: bool) -> Line
+    ensures { λ r. ⌜ Told answer words r ⌝ }
+{
+    let numbers = lines::answer(answer);
+    if words {
+        return explain::load(lines::text(numbers, b"  "), answer);
+    }
+    numbers
+}
+
+// The line of a call.
+fn told(call: &[u8], answer: Answer, words: bool) -> Line
+    ensures { λ r. ⌜ Told answer words r ⌝ }
+{
+    let numbers = lines::answer(answer);
+    if words {
+        return explain::call(lines::text(numbers, b"  "), call, answer);
+    }
+    numbers
 }

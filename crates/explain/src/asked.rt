@@ -1,67 +1,71 @@
 // What a call asks for.
 use calls::Call;
+use lines::Line;
+use lines::field;
+use lines::members;
+use lines::text;
+ghost use Prim.Native.Nat.{_+_, _≤_};
+ghost use lib.ListN.{length};
 
-pub fn call(c: Call) {
+pub fn call(l: Line, c: Call) -> Line
+    requires { ⌜ l .used ≤ 64 ⌝ }
+    ensures { λ r. ⌜ r .used ≤ l .used + 280 ⌝ }
+{
     let code = c.code;
     match code {
-        1 => saying::text(b"freemain"),
-        5 => saying::field(b"link module ", c.number as u64),
-        6 => saying::text(b"end"),
-        7 => {
-            saying::field(b"schedule module ", c.number as u64);
-            condition(b" when ", c);
-        }
-        8 => {
-            saying::text(b"wait");
-            condition(b" until ", c);
-        }
-        9 => signal(c.number, c.value),
-        10 => saying::field(b"test event ", c.number as u64),
-        12 => saying::text(b"dispatch check"),
-        13 => {
-            saying::field(b"read ", c.amount as u64);
-            saying::field(b" bytes from device ", c.number as u64);
-        }
-        14 => {
-            saying::field(b"write ", c.amount as u64);
-            saying::field(b" bytes to device ", c.number as u64);
-        }
-        15 => saying::field(b"check request ", c.number as u64),
-        32 => saying::text(b"timer"),
-        33 => saying::text(b"I/O done"),
-        34 => saying::text(b"program check"),
-        35 => saying::field(b"start module ", c.number as u64),
-        _ => saying::field(b"code ", code as u64),
+        1 => text(l, b"freemain"),
+        5 => field(l, b"link module ", c.number as u64),
+        6 => text(l, b"end"),
+        7 => condition(field(l, b"schedule module ", c.number as u64), b" when ", c),
+        8 => condition(text(l, b"wait"), b" until ", c),
+        9 => signal(l, c.number, c.value),
+        10 => field(l, b"test event ", c.number as u64),
+        12 => text(l, b"dispatch check"),
+        13 => device(l, b"read ", b" bytes from device ", c),
+        14 => device(l, b"write ", b" bytes to device ", c),
+        15 => field(l, b"check request ", c.number as u64),
+        32 => text(l, b"timer"),
+        33 => text(l, b"I/O done"),
+        34 => text(l, b"program check"),
+        35 => field(l, b"start module ", c.number as u64),
+        _ => field(l, b"code ", code as u64),
     }
 }
 
 // When the task is to go on, behind a word for it; kind 0 is at once.
-fn condition(word: &[u8], c: Call) {
+fn condition(l: Line, word: &[u8], c: Call) -> Line
+    requires { ⌜ (l .used ≤ 100) × (length (now word) ≤ 8) ⌝ }
+    ensures { λ r. ⌜ r .used ≤ l .used + 230 ⌝ }
+{
     let kind = c.kind;
     match kind {
-        0 => {}
-        1 => {
-            saying::field(word, c.value as u64);
-            saying::text(b" of events");
-            saying::members(c.events);
-        }
-        2 => {
-            saying::text(word);
-            saying::field(b"the clock is ", c.amount as u64);
-        }
-        3 => {
-            saying::field(word, c.amount as u64);
-            saying::text(b" cycles passed");
-        }
-        _ => saying::field(b" by kind ", kind as u64),
+        0 => l,
+        1 => members(
+            text(field(l, word, c.value as u64), b" of events"),
+            c.events,
+        ),
+        2 => field(text(l, word), b"the clock is ", c.amount as u64),
+        3 => text(field(l, word, c.amount as u64), b" cycles passed"),
+        _ => field(l, b" by kind ", kind as u64),
     }
 }
 
-fn signal(event: u8, value: u8) {
-    saying::field(b"signal event ", event as u64);
+fn signal(l: Line, event: u8, value: u8) -> Line
+    requires { ⌜ l .used ≤ 64 ⌝ }
+    ensures { λ r. ⌜ r .used ≤ l .used + 64 ⌝ }
+{
+    let named = field(l, b"signal event ", event as u64);
     match value {
-        0 => saying::text(b" off"),
-        1 => saying::text(b" on"),
-        _ => saying::field(b" by value ", value as u64),
+        0 => text(named, b" off"),
+        1 => text(named, b" on"),
+        _ => field(named, b" by value ", value as u64),
     }
+}
+
+// So many bytes from or to a device.
+fn device(l: Line, verb: &[u8], way: &[u8], c: Call) -> Line
+    requires { ⌜ (l .used ≤ 64) × (length (now verb) + length (now way) ≤ 32) ⌝ }
+    ensures { λ r. ⌜ r .used ≤ l .used + 80 ⌝ }
+{
+    field(field(l, verb, c.amount as u64), way, c.number as u64)
 }

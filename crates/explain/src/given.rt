@@ -1,46 +1,57 @@
 // What a call was answered.
 use crate::refused;
 use calls::Answer;
+use lines::Line;
+use lines::field;
+use lines::text;
+ghost use Prim.Native.Nat.{_+_, _≤_};
+ghost use lib.ListN.{length};
 
-pub fn answer(code: u8, a: Answer) {
+pub fn answer(l: Line, code: u8, a: Answer) -> Line
+    requires { ⌜ l .used ≤ 344 ⌝ }
+    ensures { λ r. ⌜ r .used ≤ 500 ⌝ }
+{
     if a.refusal == 0 {
-        accepted(code, a.result);
-    } else {
-        saying::text(b": refused, ");
-        refused::call(code, a.refusal);
+        return running(accepted(l, code, a.result), a);
     }
-    running(a);
+    running(refused::call(text(l, b": refused, "), code, a.refusal), a)
 }
 
-fn accepted(code: u8, result: u8) {
+fn accepted(l: Line, code: u8, result: u8) -> Line
+    requires { ⌜ l .used ≤ 344 ⌝ }
+    ensures { λ r. ⌜ r .used ≤ 440 ⌝ }
+{
     match code {
-        5 | 7 | 35 => made(b": task ", result),
-        13 | 14 => made(b": request ", result),
+        5 | 7 | 35 => made(l, b": task ", result),
+        13 | 14 => made(l, b": request ", result),
         10 => {
             if result == 2 {
-                saying::text(b": it is on");
+                text(l, b": it is on")
             } else {
-                saying::text(b": it is off");
+                text(l, b": it is off")
             }
         }
-        _ => saying::text(b": done"),
+        _ => text(l, b": done"),
     }
 }
 
-fn made(name: &[u8], block: u8) {
-    saying::field(name, block as u64);
-    saying::text(b" was made");
+fn made(l: Line, name: &[u8], block: u8) -> Line
+    requires { ⌜ (l .used ≤ 344) × (length (now name) ≤ 32) ⌝ }
+    ensures { λ r. ⌜ r .used ≤ 440 ⌝ }
+{
+    text(field(l, name, block as u64), b" was made")
 }
 
 // The running task afterwards; refusal 9 names none.
-fn running(a: Answer) {
+fn running(l: Line, a: Answer) -> Line
+    requires { ⌜ l .used ≤ 440 ⌝ }
+    ensures { λ r. ⌜ r .used ≤ 500 ⌝ }
+{
     if a.refusal == 9 {
-        return;
+        return l;
     }
     if a.running == 0 {
-        saying::text(b"; no task runs");
-    } else {
-        saying::field(b"; task ", a.running as u64);
-        saying::text(b" runs");
+        return text(l, b"; no task runs");
     }
+    text(field(l, b"; task ", a.running as u64), b" runs")
 }

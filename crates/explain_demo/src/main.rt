@@ -22,8 +22,7 @@ fn answer(refusal: u8, result: u8, running: u8) -> Answer {
 }
 
 fn load(refusal: u8, result: u8) {
-    explain::load(answer(refusal, result, 0));
-    saying::end_line();
+    saying::line(explain::load(lines::empty(), answer(refusal, result, 0)));
 }
 
 // A call of small numbers, accepted with a result while task 2 runs.
@@ -46,21 +45,18 @@ fn accepted(code: u8, number: u8, value: u8, amount: u8, result: u8) {
         0,
         0,
     ];
-    explain::call(&bytes, answer(0, result, 2));
-    saying::end_line();
+    saying::line(explain::call(lines::empty(), &bytes, answer(0, result, 2)));
 }
 
 // A WAIT of a kind, while no task runs afterwards.
 fn wait(kind: u8, value: u8, amount: u8) {
     let bytes = [8, kind, 0, value, amount, 1, 0, 0, 9, 0, 0, 0, 0, 0, 0, 128];
-    explain::call(&bytes, answer(0, 1, 0));
-    saying::end_line();
+    saying::line(explain::call(lines::empty(), &bytes, answer(0, 1, 0)));
 }
 
 fn refused(code: u8, number: u8) {
     let bytes = [code, 1, 7, 2, 0, 0, 0, 0, 4, 0, 0, 0, 0, 0, 0, 0];
-    explain::call(&bytes, answer(number, 0, 1));
-    saying::end_line();
+    saying::line(explain::call(lines::empty(), &bytes, answer(number, 0, 1)));
 }
 
 fn loads() {
@@ -127,6 +123,5 @@ fn more_refusals() {
 }
 
 fn cut() {
-    explain::call(b"\x06\x00\x00", answer(10, 0, 1));
-    saying::end_line();
+    saying::line(explain::call(lines::empty(), b"\x06\x00\x00", answer(10, 0, 1)));
 }

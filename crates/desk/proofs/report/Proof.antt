@@ -7,45 +7,35 @@ use borrow.Author.Needs.{needs}
 use Rattle.desk.proofs.report.Statement.{statement}
 use Rattle.desk.proofs.report.Tie as tie
 
-say-requires : tie.Need-say-requires
-say-requires c κs = search needs
-
-slice-aggregate-text : tie.Need-slice-aggregate-text
-slice-aggregate-text c = search needs
-
-text-requires : tie.Need-text-requires
-text-requires c κs = search needs
-
 array-share-prefix-bytes : tie.Need-array-share-prefix-bytes
-array-share-prefix-bytes c =
-    let start = c .before .before .before .before .before in
-    omega (arith, start .pre, taken-long (start .args .call) _ (start .good .0))
+array-share-prefix-bytes c = let s = c .before in omega (arith, s .pre, taken-long (s .args .call) _ (s .good .0))
 
-slice-aggregate-call : tie.Need-slice-aggregate-call
-slice-aggregate-call c = sym (length-take-le _ (c .before .before .before .before .before .before .args .call .bytes) (array-share-prefix-bytes (c .before)))
+slice-aggregate-told : tie.Need-slice-aggregate-told
+slice-aggregate-told c = sym (length-take-le _ (c .before .before .args .call .bytes) (array-share-prefix-bytes (c .before)))
 
-call-requires : tie.Need-call-requires
-call-requires c κs = search needs
+told-requires : tie.Need-told-requires
+told-requires c κs = search needs
 
-end-line-requires : tie.Need-end-line-requires
-end-line-requires c κs = search needs
-
-say-requires-2 : tie.Need-say-requires-2
-say-requires-2 c κs = search needs
+line-requires : tie.Need-line-requires
+line-requires c κs = search needs
 
 returns : tie.Need-returns
 returns c = search needs
+
+unwritten-after-requires : tie.Need-unwritten-after-requires
+unwritten-after-requires c κs = search needs
+
+returns-2 : tie.Need-returns-2
+returns-2 c = search needs
 
 pub report-spec : {M : Type 1} → statement M
 report-spec =
     tie.close
     (tie.spec
-    say-requires
-    slice-aggregate-text
-    text-requires
     array-share-prefix-bytes
-    slice-aggregate-call
-    call-requires
-    end-line-requires
-    say-requires-2
-    returns)
+    slice-aggregate-told
+    told-requires
+    line-requires
+    returns
+    unwritten-after-requires
+    returns-2)

@@ -1,9 +1,9 @@
 -- `serve` is safe and ends: a walk of its MIR, by hand. It is the desk loop: the tables lie in a local, which each turn lends to `advance` for a lifetime
 -- that is made for the call, and has again once that is ended.
--- The loop's variant is the number of turns that are left; its invariant has the tables in their local, whatever they are, and room in every local of a turn.
+-- The loop's variant is how far the number of calls answered is from 2 ^ 64; its invariant has the tables in their local, whatever they are, and room in every local of a turn.
 -- All that the proof knows of `take`, `advance` and `report` is that each meets its contract. No field of the tables is named.
 use mathlib.Core.Path.{_≡_, refl, sym, ap, subst}
-use Prim.Native.Nat.{ℕ, _-_, _≤_, _<_, _^_}
+use Prim.Native.Nat.{ℕ, _+_, _-_, _≤_, _<_, _^_}
 use native.Mathlib.Omega.{arith}
 use mathlib.Core.WellFounded.{WellFounded, InvImage·wf}
 use mathlib.Core.Bool.{Bool}
@@ -29,7 +29,7 @@ use contract.Running.{givenOf, tables, tablesOf}
 use types.Kit.{Given, Item, ‵, raw, given, runs, anyQ, atRet, Sq, _⊛_, ⋆, some, later, _$_, _∵_, !, qed, by, move, keep, drop, use0, use1, use2, use3, split}
 use types.Kit.{join, pick, learn, rewrite, fsplit, fjoin, feqI, feqL, suffices, frame, await, done}
 use types.Part.{agg, whole, sub, look-in}
-use types.Run.{look, init, store, forget, stop, fld, from, load, lit, neg-lit, unit-lit, addr, of-opd, bin, and-then, no-more, assigns, land, first, skips}
+use types.Run.{look, init, store, forget, stop, fld, from, load, lit, neg-lit, unit-lit, addr, of-opd, bin, and-then, no-more, assigns, assigns-last, land, first, skips}
 use types.Run.{jumps, blocks, branches, returns, enter, alloc1, alloc0, params1, pass1, pass0, free1, free0, exec, Below, again, loops}
 use types.SemTy.{Body}
 use types.Tokens.{lft-new, lft-end}
@@ -37,8 +37,8 @@ use sound.WpLaws.{FmC, fmOf, WpFn-mono}
 use denote.Memory.{mem, pointee}
 use denote.Laws.{Is, shows}
 use denote.Array.{Array, array-lawful}
-use denote.Builtin.{u8}
-use denote.Plain.{Boolean, bool-vals, bool-tells, bool-makes, uint-lawful}
+use denote.Builtin.{u8, u64}
+use denote.Plain.{Boolean, bool-vals, bool-tells, bool-makes, uint-makes, uint-lawful}
 use denote.Lend.{lends-ref, ref-back}
 use denote.Ref.{RefT, MutRef}
 use denote.Slice.{sliceTy, sliceVal, ShrSlice}
@@ -67,7 +67,7 @@ use Rattle.desk.specs.declared.Taken.{Taken}
 use Rattle.desk.proofs.Taken as K
 use Rattle.desk.proofs.Taken.Laws as K′
 use Rattle.desk.proofs.Bytes.{vA, tyA, firsts, Left, lends-bytes, bytes-back}
-use Rattle.tables.proofs.Lies.{vT, lies-in, lies-out}
+use Rattle.pipes.proofs.Lies.{lies-in, lies-out}
 use Rattle.desk.proofs.take as take
 use Rattle.desk.proofs.take.Symbol as take-def
 use Rattle.desk.proofs.take.Symbol.{name as #desk·take}
@@ -82,10 +82,14 @@ use Rattle.desk.proofs.serve.Statement as stated
 use Rattle.desk.proofs.serve.Code as code
 use Rattle.desk.proofs.serve.Code.Mir as pieces
 
+-- the tables' machine value
+abbrev vT : Tables → Val
+vT = LL.val T.the-type T′.the-laws
+
 abbrev stayed : Stays (serve.ended .signature .params) (serve.ended .kept)
 stayed = (stay-none (λ _. T.the-row) yes, (stay-none (λ _. Boolean) yes, tt))
 
--- ---- the code: a turn of the loop, what follows its first test, what follows its second, what follows the call of `advance`, and what follows the loop
+-- ---- the code: a turn of the loop, what follows its first test, what follows its second, what follows the call of `advance`, the count, and what follows the loop
 abbrev then : Code → Code
 then skipᴹ = skipᴹ
 then (seq a b) = b
@@ -105,10 +109,13 @@ abbrev tested : Code
 tested = then (then turn)
 
 abbrev asked : Code
-asked = then (then (then (then (then (then tested)))))
+asked = then (then (then (then (then tested))))
 
 abbrev told : Code
 told = then (then (then (then asked)))
+
+abbrev counts : Code
+counts = then (then (then told))
 
 abbrev over : Code
 over = pieces.t-4
@@ -144,31 +151,36 @@ module _ (c : Taken) (u : Val) (is : Is K.the-row c (u ∷ [])) where
   sent-fits : c .count ≤ 16 → length (sentOf c) < 2 ^ 64
   sent-fits few = subst (λ (k : ℕ). k < 2 ^ 64) (counted few) count-fits
 
--- ---- the loop's variant: the turns that are left, and the tables
+-- ---- the loop's variant: the calls that were answered, and the tables
 record State : Type 0 where
-  pub left : ℕ
-  pub left-fits : left < 2 ^ 64
+  pub done : ℕ
+  pub fits : done < 2 ^ 64
   pub held : Tables
   pub holds : Is T.the-row held (vT held ∷ [])
 
+abbrev left : State → ℕ
+left x = 2 ^ 64 - x .done
+
 abbrev Less : State → State → Type 0
-Less x y = x .left < y .left
+Less x y = left x < left y
 
 Less-wf : WellFounded Less
-Less-wf = InvImage·wf (λ (x : State). x .left) (Nat·lt-wfRel .wf)
+Less-wf = InvImage·wf left (Nat·lt-wfRel .wf)
 
-one-less : (n : ℕ) → 0 < n → n - 1 < n
-one-less n h = omega (arith, h)
+-- the same count, with the tables t
+abbrev with-tables : State → (t : Tables) → Is T.the-row t (vT t ∷ []) → State
+with-tables y t is = record { done = y .done; fits = y .fits; held = t; holds = is }
 
-at-least : (n : ℕ) → 0 < n → 1 ≤ n
-at-least n h = omega (arith, h)
+-- one call more
+module _ (n : ℕ) (more : n < 2 ^ 64 - 1) where
+  still-fits : n + 1 < 2 ^ 64
+  still-fits = omega (arith, more)
 
-still-fits : (n : ℕ) → n < 2 ^ 64 → n - 1 < 2 ^ 64
-still-fits n h = omega (arith, h)
+  one-less : 2 ^ 64 - (n + 1) < 2 ^ 64 - n
+  one-less = omega (arith, more)
 
--- a turn later, with the tables t
-abbrev later-state : State → (t : Tables) → Is T.the-row t (vT t ∷ []) → State
-later-state y t is = record { left = y .left - 1; left-fits = still-fits (y .left) (y .left-fits); held = t; holds = is }
+abbrev one-more : (y : State) → y .done < 2 ^ 64 - 1 → State
+one-more y more = record { done = y .done + 1; fits = still-fits (y .done) more; held = y .held; holds = y .holds }
 
 -- ---- what a turn lends: the tables at a local, for ν under the name δ; and the bytes that were taken, at another, for μ under the name ε
 record Lent : Type 0 where
@@ -193,18 +205,21 @@ module _ {M : Type 1} (𝓤 : URA M) (H : Heap 𝓤) (A : Atoms 𝓤) (mem : Mem
   ReportC = tripleOf 𝓤 H A report.signature (report.spec 𝓤 H A mem run)
 
 module _ {M : Type 1} (𝓤 : URA M) (H : Heap 𝓤) (A : Atoms 𝓤) (W : Given 𝓤 H A) (at-mem : Memory → SProp 𝓤) (run : Routine → Fun 𝓤) where
-  -- the call of `take`
-  abbrev to-take : TakeC 𝓤 H A at-mem run .Ghost
-  to-take = ((tt, tt, tt, tt, tt), tt)
+  -- the call of `take`, after n calls
+  module _ (n : ℕ) where
+    abbrev to-take : TakeC 𝓤 H A at-mem run .Ghost
+    to-take = ((tt, tt, tt, (n, tt), (vint w64 n ∷ [], tt)), tt)
 
-  goes-take : ent 𝓤 (emp 𝓤) (TakeC 𝓤 H A at-mem run .pre to-take)
-  goes-take = qed W [] ∵ nothing ! $ nothing ! $ join ! $ nothing ! $ move ! (1 ∷ 0 ∷ []) $ frame ! $ done !
+    goes-take : n < 2 ^ 64 → ent 𝓤 (emp 𝓤) (TakeC 𝓤 H A at-mem run .pre to-take)
+    goes-take fits =
+        qed W [] ∵ nothing ! $ owned ! u64 (Is u64) (uint-makes 𝓤 H A W w64) n (vint w64 n ∷ []) (refl, fits) $ fjoin ! $ nothing ! $ join ! $
+        nothing ! $ move ! (1 ∷ 0 ∷ []) $ frame ! $ done !
 
-  abbrev TakeSaid : Taken → SProp 𝓤
-  TakeSaid c = ensured 𝓤 H A take.ended (take.clauses 𝓤 H A at-mem run) tt tt tt c
+    abbrev TakeSaid : Taken → SProp 𝓤
+    TakeSaid c = ensured 𝓤 H A take.ended (take.clauses 𝓤 H A at-mem run) tt (n, tt) tt c
 
-  take-said : (c : Taken) → ent 𝓤 (TakeSaid c) (fact 𝓤 (c .count ≤ 16))
-  take-said c = exE 𝓤 _ (λ ws. snd∗ 𝓤 (sem 𝓤 H A (lasts take.ended tt tt ws)) (fact 𝓤 (c .count ≤ 16)))
+    take-said : (c : Taken) → ent 𝓤 (TakeSaid c) (fact 𝓤 (c .count ≤ 16))
+    take-said c = exE 𝓤 _ (λ ws. snd∗ 𝓤 (sem 𝓤 H A (lasts take.ended tt (n, tt) ws)) (fact 𝓤 (c .count ≤ 16)))
 
   -- the tables at l, lent for ν under the name δ
   abbrev lentAt : ℕ → GName → Tables → RefT Tables
@@ -252,20 +267,22 @@ module _ {M : Type 1} (𝓤 : URA M) (H : Heap 𝓤) (A : Atoms 𝓤) (W : Given
     abbrev Stepped : Answer → Tables → Type 0
     Stepped r z = (r .refusal ∷ r .result ∷ r .running ∷ [] ≡ lineOf (stepOf (p .held) (p .sent))) × (z ≡ stepOf (p .held) (p .sent) .tables)
 
-  -- the call of `report`, where words₀ is what `serve` was passed
-  module _ (words₀ : Bool) (c : Taken) (r : Answer) (w : Val) where
+  -- the call of `report`, where words₀ is what `serve` was passed, after n calls
+  module _ (words₀ : Bool) (c : Taken) (r : Answer) (w : Val) (n : ℕ) where
     abbrev to-report : ReportC 𝓤 H A at-mem run .Ghost
-    to-report = ((tt, tt, tt, (c, (r, (words₀, tt))), (vK c ∷ [], (w ∷ [], (vbool words₀ ∷ [], tt)))), tt)
+    to-report = ((tt, tt, tt, (c, (r, (words₀, (n, tt)))), (vK c ∷ [], (w ∷ [], (vbool words₀ ∷ [], (vint w64 n ∷ [], tt))))), tt)
 
-    goes-report : c .count ≤ 16 → Is K.the-row c (vK c ∷ []) → ent 𝓤 (sem 𝓤 H A (N.the-row .own r (w ∷ []))) (ReportC 𝓤 H A at-mem run .pre to-report)
-    goes-report few is =
+    goes-report : c .count ≤ 16 → Is K.the-row c (vK c ∷ []) → n < 2 ^ 64
+        → ent 𝓤 (sem 𝓤 H A (N.the-row .own r (w ∷ []))) (ReportC 𝓤 H A at-mem run .pre to-report)
+    goes-report few is fits =
         qed W (‵ (N.the-row .own r (w ∷ [])) ∷ []) ∵ says ! few $ nothing ! $
+        owned ! u64 (Is u64) (uint-makes 𝓤 H A W w64) n (vint w64 n ∷ []) (refl, fits) $ fjoin ! $
         owned ! Boolean (Is Boolean) (bool-makes 𝓤 H A W) words₀ (vbool words₀ ∷ []) refl $ fjoin ! $
         move ! (1 ∷ 0 ∷ []) $ fjoin ! $ owned ! K.the-row (Is K.the-row) (LL.makes K.the-type K′.the-plain 𝓤 H A) c _ is $ fjoin ! $
         nothing ! $ frame ! $ done !
 
     abbrev ReportSaid : Bool → SProp 𝓤
-    ReportSaid z = ensured 𝓤 H A report.ended (report.clauses 𝓤 H A at-mem run) tt (c, (r, (words₀, tt))) tt z
+    ReportSaid z = ensured 𝓤 H A report.ended (report.clauses 𝓤 H A at-mem run) tt (c, (r, (words₀, (n, tt)))) tt z
 
   module _ (t₀ : Tables) (was : Is T.the-row t₀ (vT t₀ ∷ [])) (words₀ : Bool) where
     abbrev bound : walkOf 𝓤 H A serve.ended stayed (serve.clauses 𝓤 H A at-mem run) .Ghost
@@ -312,7 +329,7 @@ module _ {M : Type 1} (𝓤 : URA M) (H : Heap 𝓤) (A : Atoms 𝓤) (W : Given
           ‵ (froom tyS l₁₃ 0) ∷ ‵ (fdies tyS l₁₃) ∷ ‵ (froom tyB l₁₂ 0) ∷ ‵ (fdies tyB l₁₂) ∷ ‵ (froom tyM l₁₁ 0) ∷ ‵ (fdies tyM l₁₁) ∷
           ‵ (froom tyBool l₁₀ 0) ∷ ‵ (fdies tyBool l₁₀) ∷ ‵ (froom tyBool l₉ 0) ∷ ‵ (fdies tyBool l₉) ∷ a ∷ ‵ (fdies N′.mir l₈) ∷
           k ∷ ‵ (fdies (tyInt w64) l₇) ∷ i ∷ ‵ (fdies (tyA 16) l₆) ∷ c ∷ ‵ (fdies K′.mir l₅) ∷
-          ‵ (fat fullShare (tyInt w64) l₄ 0 (vint w64 (y .left))) ∷ ‵ (fdies (tyInt w64) l₄) ∷
+          ‵ (fat fullShare (tyInt w64) l₄ 0 (vint w64 (y .done))) ∷ ‵ (fdies (tyInt w64) l₄) ∷
           ‵ (fat fullShare T′.mir l₃ 0 (vT (y .held))) ∷ ‵ (fdies T′.mir l₃) ∷ ‵ (fat fullShare tyBool l₂ 0 (vbool words₀)) ∷ ‵ (fdies tyBool l₂) ∷
           ‵ (fat fullShare T′.mir l₁ 0 (vT t₀)) ∷ ‵ (fdies T′.mir l₁) ∷ ‵ (froom tyUnit l₀ 0) ∷ ‵ (fdies tyUnit l₀) ∷ []
 
@@ -347,31 +364,34 @@ module _ {M : Type 1} (𝓤 : URA M) (H : Heap 𝓤) (A : Atoms 𝓤) (W : Given
 
       module _ (fm : FmC 𝓤 H (W .laws) C) (known-take : Triple 𝓤 (C #desk·take) (TakeC 𝓤 H A at-mem run))
           (known-advance : Triple 𝓤 (C #executive·advance) (AdvanceC 𝓤 H A at-mem run)) (known-report : Triple 𝓤 (C #desk·report) (ReportC 𝓤 H A at-mem run)) where
-        -- the end of a turn: `report` is called, and says whether the session is over
-        tells : (y : State) → 0 < y .left → (c : Taken) → c .count ≤ 16 → Is K.the-row c (vK c ∷ [])
+        -- the end of a turn: `report` is called, and says whether the session is over; if not, one more call was answered
+        tells : (y : State) → y .done < 2 ^ 64 - 1 → (c : Taken) → c .count ≤ 16 → Is K.the-row c (vK c ∷ [])
             → (t : Tables) (isT : Is T.the-row t (vT t ∷ [])) (r : Answer) (w : Val)
-            → Sq W (AtAnswered c r w (later-state y t isT)) (runs C Λ En told (anyQ (Turned y)))
+            → Sq W (AtAnswered c r w (with-tables y t isT)) (runs C Λ En told (anyQ (Turned y)))
         unfolding afterTurn
         tells y more c few is t isT r w =
             -- [what the answer owns; _13; …; _12; …; _11; …; _10; …; _9; …; _8; …; _7; …; _6; …; _5; …; _4; …; _3; …; _2; …; _1; …; _0; …]
-            use1 W (raw (ReportC 𝓤 H A at-mem run .pre (to-report words₀ c r w))) (goes-report words₀ c r w few is) $
-            calls-at ! fm (ReportC 𝓤 H A at-mem run) known-report (to-report words₀ c r w)
+            use1 W (raw (ReportC 𝓤 H A at-mem run .pre (to-report words₀ c r w (y .done)))) (goes-report words₀ c r w (y .done) few is (y .fits)) $
+            calls-at ! fm (ReportC 𝓤 H A at-mem run) known-report (to-report words₀ c r w (y .done))
             (and-then ! (load ! (from ! (stop !)) (look ! 17 refl)) (and-then ! (load ! (from ! (stop !)) (look ! 11 refl))
-            (and-then ! (load ! (from ! (stop !)) (look ! 23 refl)) (no-more !)))) (λ u.
-            use1 W (later (some (λ (z : Bool). (‵ ftrue ⊛ ‵ (Boolean .own z (u ∷ []))) ⊛ raw (ReportSaid words₀ c r w z)))) (id⊢ 𝓤 _) $ await ! tt $ pick ! (λ z.
+            (and-then ! (load ! (from ! (stop !)) (look ! 23 refl)) (and-then ! (load ! (from ! (stop !)) (look ! 19 refl)) (no-more !))))) (λ u.
+            use1 W (later (some (λ (z : Bool). (‵ ftrue ⊛ ‵ (Boolean .own z (u ∷ []))) ⊛ raw (ReportSaid words₀ c r w (y .done) z)))) (id⊢ 𝓤 _) $ await ! tt $ pick ! (λ z.
             split ! $ split ! $ move ! (1 ∷ []) $ feqL ! (λ e.
             -- [true; …; _13; …; _12; …; _11; …; _10; …; _9; …; _8; …; _7; …; _6; …; _5; …; _4; …; _3; …; _2; …; _1; …; _0; …]
             land ! (from ! (stop !)) (init ! 10 refl (subst (λ (o : Val). Holds (hasTy tyBool o) × WT o) (sym (ap only e)) (tt, tt))) $
             rewrite ! 10 (λ (o : Val). ‵ (fat fullShare tyBool l₉ 0 o)) (ap only e) refl $
             assigns ! (of-opd ! (load ! (from ! (stop !)) (look ! 10 refl))) (from ! (stop !)) (init ! 8 refl (tt, tt)) $
             forget ! 10 refl $ forget ! 12 refl $ forget ! 18 refl $ drop ! $ drop ! $
-            branches ! (load ! (from ! (stop !)) (look ! 6 refl))
-            (λ ended. jumps ! $ exec ! C Λ En over (atRet En Post) $ forget ! 6 refl $ leaves (later-state y t isT))
-            (λ goes. skips ! $ forget ! 6 refl $ again ! Less At y (later-state y t isT) (one-less (y .left) more)))))
+            first ! $ branches ! (load ! (from ! (stop !)) (look ! 6 refl))
+            (λ ended. jumps ! $ exec ! C Λ En over (atRet En Post) $ forget ! 6 refl $ leaves (with-tables y t isT))
+            (λ goes. skips ! $ exec ! C Λ En counts (anyQ (Turned y)) $ forget ! 6 refl $
+            assigns-last ! (bin ! (load ! (from ! (stop !)) (look ! 18 refl)) (lit ! tt) (record { fits = still-fits (y .done) more })) (from ! (stop !))
+            (store ! 18 refl (tt, record { fits = still-fits (y .done) more })) $
+            again ! Less At y (one-more (with-tables y t isT) more) (one-less (y .done) more)))))
 
         -- a turn, once there is a call: the references are made, the tables and the bytes are lent, `advance` is called, and both are had again
-        lends : (y : State) → 0 < y .left → (c : Taken) → c .count ≤ 16 → Is K.the-row c (vK c ∷ [])
-            → Sq W (AtTaken c (later-state y (y .held) (y .holds))) (runs C Λ En asked (anyQ (Turned y)))
+        lends : (y : State) → y .done < 2 ^ 64 - 1 → (c : Taken) → c .count ≤ 16 → Is K.the-row c (vK c ∷ [])
+            → Sq W (AtTaken c y) (runs C Λ En asked (anyQ (Turned y)))
         lends y more c few is =
             -- the references are made
             assigns ! (addr ! (from ! (stop !))) (from ! (stop !)) (init ! 4 refl (tt, tt)) $
@@ -381,7 +401,7 @@ module _ {M : Type 1} (𝓤 : URA M) (H : Heap 𝓤) (A : Atoms 𝓤) (W : Given
             (from ! (stop !))
             (init ! 0 refl (tt, (tt, (record { fits = sent-fits c (vK c) is few }, tt)))) $
             -- the tables are lent for ν, and the bytes for μ
-            move ! (20 ∷ 14 ∷ []) $ use1 W (‵ (mem T.the-row .lies (y .held) l₃ 0)) (lies-in 𝓤 H A W (y .held) l₃ (y .holds)) $
+            move ! (20 ∷ 14 ∷ []) $ use1 W (‵ (mem T.the-row .lies (y .held) l₃ 0)) (lies-in T.the-type T′.the-laws T′.the-plain 𝓤 H A W (y .held) l₃ (y .holds)) $
             lft-new ! tt (λ ν. move ! (1 ∷ []) $
             use1 W (later (some (λ (δ : GName). ‵ (RefAt l₃ ν δ (y .held)) ⊛ ‵ (flent (ν ∷ []) (Body (mem T.the-row) l₃ 0 δ)))))
             (lends-ref 𝓤 H A W T.the-row (named 0) (ν ∷ []) (y .held) l₃ 0) $ await ! tt $ pick ! (λ δ. split ! $
@@ -407,7 +427,7 @@ module _ {M : Type 1} (𝓤 : URA M) (H : Heap 𝓤) (A : Atoms 𝓤) (W : Given
             -- the lifetimes are ended, and the locals are had again
             move ! (1 ∷ []) $ split ! $ lft-end ! tt $ move ! (0 ∷ 6 ∷ 3 ∷ []) $
             use3 W (later (‵ (mem T.the-row .lies (zs .0) l₃ 0))) (ref-back 𝓤 H A W T.the-row (ν ∷ []) δ (zs .0) l₃ 0) $ await ! tt $
-            use1 W (given (Is T.the-row (zs .0) (vT (zs .0) ∷ [])) (‵ (fat fullShare T′.mir l₃ 0 (vT (zs .0))))) (lies-out 𝓤 H A W (zs .0) l₃) $ learn ! (λ isT.
+            use1 W (given (Is T.the-row (zs .0) (vT (zs .0) ∷ [])) (‵ (fat fullShare T′.mir l₃ 0 (vT (zs .0))))) (lies-out T.the-type T′.the-laws T′.the-plain 𝓤 H A W (zs .0) l₃) $ learn ! (λ isT.
             move ! (1 ∷ []) $ split ! $ lft-end ! tt $ move ! (0 ∷ 5 ∷ []) $
             use2 W (later (‵ (froom (tyA 16) l₆ 0))) (bytes-back 16 (c .count) (bytesOf c) (μ ∷ []) l₆ 𝓤 H A W (sixteen c (vK c) is)) $ await ! tt $
             -- [room for _6; …; _3; what the answer owns; …; _13; …; _12; …; _11; …; _10; …; _9; …; _8; …; _7; …; what frees _6; _5; …; _4; …;
@@ -417,16 +437,14 @@ module _ {M : Type 1} (𝓤 : URA M) (H : Heap 𝓤) (A : Atoms 𝓤) (W : Given
             tells y more c few is (zs .0) isT r w)))))))))
 
         -- a turn, once the first test has passed
-        goes-on : (y : State) → 0 < y .left → Sq W (At y) (runs C Λ En tested (anyQ (Turned y)))
+        goes-on : (y : State) → y .done < 2 ^ 64 - 1 → Sq W (At y) (runs C Λ En tested (anyQ (Turned y)))
         unfolding afterTurn
         goes-on y more =
             -- [_13; …; _12; …; _11; …; _10; …; _9; …; _8; …; _7; …; _6; …; _5; …; _4; …; _3; …; _2; …; _1; …; _0; …]
-            assigns ! (bin ! (load ! (from ! (stop !)) (look ! 18 refl)) (lit ! tt) (at-least (y .left) more)) (from ! (stop !))
-            (store ! 18 refl (tt, record { fits = still-fits (y .left) (y .left-fits) })) $
-            -- `take`
-            use0 W (raw (TakeC 𝓤 H A at-mem run .pre to-take)) goes-take $ calls-at ! fm (TakeC 𝓤 H A at-mem run) known-take to-take (no-more !) (λ u.
-            use1 W (later (some (λ (c : Taken). (‵ ftrue ⊛ ‵ (K.the-row .own c (u ∷ []))) ⊛ raw (TakeSaid c)))) (id⊢ 𝓤 _) $ await ! tt $ pick ! (λ c.
-            split ! $ move ! (1 ∷ []) $ use1 W (raw (fact 𝓤 (c .count ≤ 16))) (take-said c) $ heard ! (c .count ≤ 16) (λ few. split ! $ drop ! $
+            use0 W (raw (TakeC 𝓤 H A at-mem run .pre (to-take (y .done)))) (goes-take (y .done) (y .fits)) $
+            calls-at ! fm (TakeC 𝓤 H A at-mem run) known-take (to-take (y .done)) (and-then ! (load ! (from ! (stop !)) (look ! 19 refl)) (no-more !)) (λ u.
+            use1 W (later (some (λ (c : Taken). (‵ ftrue ⊛ ‵ (K.the-row .own c (u ∷ []))) ⊛ raw (TakeSaid (y .done) c)))) (id⊢ 𝓤 _) $ await ! tt $ pick ! (λ c.
+            split ! $ move ! (1 ∷ []) $ use1 W (raw (fact 𝓤 (c .count ≤ 16))) (take-said (y .done) c) $ heard ! (c .count ≤ 16) (λ few. split ! $ drop ! $
             peeks ! K.the-row (Is K.the-row) (shows 𝓤 H A K.the-row) c (u ∷ []) (λ is.
             land ! (from ! (stop !)) (init ! 17 refl (LL.lawful K.the-type K′.the-laws 𝓤 H A W .typed c _ is .0)) $
             rewrite ! 17 (λ (w : Val). ‵ (fat fullShare K′.mir l₅ 0 w)) (ap only (LL.tells K.the-type K′.the-laws c (u ∷ []) is)) refl $ drop ! $
@@ -437,16 +455,15 @@ module _ {M : Type 1} (𝓤 : URA M) (H : Heap 𝓤) (A : Atoms 𝓤) (W : Given
             (init ! 12 refl (tt, record { fits = count-fits c u is })) $
             assigns ! (bin ! (load ! (from ! (stop !)) (look ! 12 refl)) (lit ! tt) tt) (from ! (stop !)) (init ! 6 refl (tt, tt)) $
             first ! $ branches ! (load ! (from ! (stop !)) (look ! 6 refl))
-            (λ none. jumps ! $ exec ! C Λ En over (atRet En Post) $ forget ! 6 refl $ forget ! 12 refl $ forget ! 14 refl $ forget ! 16 refl $
-            leaves (later-state y (y .held) (y .holds)))
+            (λ none. jumps ! $ exec ! C Λ En over (atRet En Post) $ forget ! 6 refl $ forget ! 12 refl $ forget ! 14 refl $ forget ! 16 refl $ leaves y)
             (λ any. skips ! $ exec ! C Λ En asked (anyQ (Turned y)) $ forget ! 6 refl $ lends y more c few (is-taken c u is))))))
 
         turns : (y : State) → Sq W (At y) (runs C Λ En turn (anyQ (Turned y)))
         unfolding afterTurn
         turns y =
-            assigns ! (bin ! (lit ! tt) (load ! (from ! (stop !)) (look ! 18 refl)) tt) (from ! (stop !)) (init ! 6 refl (tt, tt)) $
+            assigns ! (bin ! (load ! (from ! (stop !)) (look ! 18 refl)) (neg-lit ! tt) tt) (from ! (stop !)) (init ! 6 refl (tt, tt)) $
             first ! $ branches ! (load ! (from ! (stop !)) (look ! 6 refl))
-            (λ more. skips ! $ exec ! C Λ En tested (anyQ (Turned y)) $ forget ! 6 refl $ goes-on y (ltb→lt 0 (y .left) more))
+            (λ more. skips ! $ exec ! C Λ En tested (anyQ (Turned y)) $ forget ! 6 refl $ goes-on y (ltb→lt (y .done) (2 ^ 64 - 1) more))
             (λ none. jumps ! $ exec ! C Λ En over (atRet En Post) $ forget ! 6 refl $ leaves y)
 
         looped : (y : State) → Sq W (At y) (runs C Λ En pieces.t-3 (atRet En Post))
@@ -465,9 +482,9 @@ module _ {M : Type 1} (𝓤 : URA M) (H : Heap 𝓤) (A : Atoms 𝓤) (W : Given
           pass1 ! (init ! 24 refl (LL.lawful T.the-type T′.the-laws 𝓤 H A W .typed t₀ _ was .0)) $ pass1 ! (init ! 22 refl (tt, tt)) $ pass0 ! $
           assigns ! (of-opd ! (load ! (from ! (stop !)) (look ! 24 refl))) (from ! (stop !))
           (init ! 20 refl (LL.lawful T.the-type T′.the-laws 𝓤 H A W .typed t₀ _ was .0)) $
-          assigns ! (of-opd ! (neg-lit ! tt)) (from ! (stop !)) (init ! 18 refl (tt, record { fits = lit< tt })) $
+          assigns ! (of-opd ! (lit ! tt)) (from ! (stop !)) (init ! 18 refl (tt, record { fits = lit< tt })) $
           looped 𝓣 l₀ l₁ l₂ l₃ l₄ l₅ l₆ l₇ l₈ l₉ l₁₀ l₁₁ l₁₂ l₁₃ (fmOf 𝓤 H (W .laws) 𝓣) known-take known-advance known-report
-          (record { left = 2 ^ 64 - 1; left-fits = lit< tt; held = t₀; holds = was })))))))))))))))
+          (record { done = 0; fits = lit< tt; held = t₀; holds = was })))))))))))))))
 
 module _ {M : Type 1} (𝓤 : URA M) (H : Heap 𝓤) (A : Atoms 𝓤) (W : Given 𝓤 H A) (mem : Memory → SProp 𝓤) (run : Routine → Fun 𝓤) (𝓣 : Tabled 𝓤 H)
     (known-take : Triple 𝓤 (𝓣 .C #desk·take) (TakeC 𝓤 H A mem run)) (known-advance : Triple 𝓤 (𝓣 .C #executive·advance) (AdvanceC 𝓤 H A mem run))

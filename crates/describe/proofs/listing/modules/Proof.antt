@@ -5,10 +5,10 @@ use Rattle.describe.proofs.listing.modules.Statement.{statement}
 use Rattle.describe.proofs.listing.modules.Tie as tie
 
 abbrev Inv-loop : tie.InvT-loop
-Inv-loop d used m₀ m = m ≤ 32
+Inv-loop d used written₀ m₀ written m = m ≤ 32
 
 abbrev μ-loop : tie.MeasureT-loop
-μ-loop d used m₀ m = 32 - m
+μ-loop d used written₀ m₀ written m = 32 - m
 
 cast-used : tie.Need-cast-used Inv-loop μ-loop
 cast-used c = search needs
@@ -24,6 +24,9 @@ element-copy-out-entry c = search needs
 
 entry-requires : tie.Need-entry-requires Inv-loop μ-loop
 entry-requires c κs = search needs
+
+line-requires : tie.Need-line-requires Inv-loop μ-loop
+line-requires c κs = search needs
 
 add-m : tie.Need-add-m Inv-loop μ-loop
 add-m c = search needs
@@ -48,6 +51,7 @@ modules-spec =
     mul-entry
     element-copy-out-entry
     entry-requires
+    line-requires
     add-m
     loop-less
     loop-again

@@ -1,0 +1,3 @@
+pub mod Behind
+pub mod Decimal
+pub mod Unique
