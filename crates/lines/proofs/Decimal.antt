@@ -1,17 +1,16 @@
 -- Numbers in decimal: what `io::decimal` spells, the fewest digits that hold the number, is `decimal`; and it is at most 20 digits, at most 2 below 100.
 -- By induction on the digits: the last stands behind the number without it.
 use mathlib.Core.Bool.{Bool, true, false}
-use mathlib.Core.Path.{_≡_, refl, ap, _∙_}
-use mathlib.Core.List.{List, [], _∷_, _++_}
+use mathlib.Core.Path.{_≡_, refl}
+use mathlib.Core.List.{[], _∷_, _++_}
 use Prim.Native.Nat.{ℕ, zero, suc, _+_, _-_, _/_, _%_, _^_, _≤_, _<_}
 use native.Mathlib.Nat.{pow-suc, one-le-pow, pow-le-pow-right, mod-lt, mod-eq-of-lt, div-add-mod'}
 use native.Mathlib.Numerals.{unary-clauses}
 use native.Mathlib.Omega.{arith}
 use lib.Dec.{leb, ltb, lit<, lit≤}
-use lib.ListN.{length, length-append}
+use lib.ListN.{length}
 use borrow.Author.Tests.{leb-true, leb-false, ltb-true, ltb-false, lt-ltb, le-ltb}
 use Rattle.io.specs.Digits.{glyph, digits, Fewest}
-use Rattle.words.specs.Words.{if_then_else_}
 use Rattle.lines.specs.Lines.{decimalBy, decimal}
 
 -- ---- its two cases

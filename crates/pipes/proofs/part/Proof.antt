@@ -1,6 +1,5 @@
-use Prim.Native.Nat.{_+_, _-_, _≤_}
-use mathlib.Core.Path.{_≡_}
-use native.Mathlib.Omega.{arith}
+-- `part` is safe and ends, and its count is within the bytes: each try's is, and leaves one try fewer.
+use Prim.Native.Nat.{_≤_}
 use lib.ListN.{length}
 use borrow.Author.Needs.{needs}
 use Rattle.pipes.proofs.part.Statement.{statement}

@@ -1,6 +1,6 @@
 -- `take` is safe and ends, and its count is within the buffer: what it has done so far is, and grows with each read.
 use Prim.Native.Nat.{ℕ, _-_, _≤_, _<_}
-use mathlib.Core.Bool.{true, false, true≢false}
+use mathlib.Core.Bool.{true, true≢false}
 use mathlib.Core.List.{List}
 use mathlib.Core.Path.{_≡_, sym}
 use lib.ListN.{length}

@@ -1,6 +1,6 @@
 -- `pause` is safe: a walk of its MIR, by hand. Two times lie in locals; one is lent to `nanosleep` to look at and one to write to, each for a lifetime that is
 -- made for the call, and both are had again once those are ended. All that the proof knows of `nanosleep` is its contract.
-use mathlib.Core.Path.{_≡_, refl}
+use mathlib.Core.Path.{refl}
 use Prim.Native.Nat.{ℕ}
 use mathlib.Core.List.{List, [], _∷_}
 use lib.Dec.{lit<}
@@ -14,20 +14,20 @@ use base.Fml.{Lft, GName, Fml, ftrue, froom, fdead, flft, flent}
 use prog.Memory.{Memory}
 use prog.Routine.{Routine}
 use prog.Wp.{Heap, Env, WpFn, Tables as Tabled}
-use ghost.Atoms.{Atoms, sem}
+use ghost.Atoms.{Atoms}
 use contract.Monad.{Fun, fact}
 use contract.Running.{givenOf, tables, tablesOf}
-use types.Kit.{Given, Item, ‵, raw, given, _⊛_, ⋆, some, later, _$_, _∵_, !, qed, by, move, drop, use1, use2, use3, split, join, pick, learn, fsplit, fjoin, feqI, suffices, frame, await, fpick, updating, now as at-once, done}
+use types.Kit.{Given, Item, ‵, raw, _⊛_, ⋆, some, later, _$_, _∵_, !, qed, by, move, drop, use1, use2, use3, split, join, pick, fsplit, fjoin, feqI, suffices, frame, await, fpick, updating, now as at-once, done}
 use types.Part.{agg}
 use types.Run.{Opd, look, init, forget, stop, from, load, lit, unit-lit, addr, of-opd, and-then, no-more, assigns, land, returns, enter, alloc1, alloc0, params1, pass0, free1, free0}
 use types.SemTy.{Body}
 use types.Tokens.{lft-new, lft-end, lent-back}
-use sound.WpLaws.{FmC, fmOf, WpFn-mono}
+use sound.WpLaws.{fmOf, WpFn-mono}
 use denote.Memory.{mem, partAt}
 use denote.Laws.{Is, shows}
 use denote.Builtin.{i32}
 use denote.Signed.{sint-lawful}
-use denote.Lend.{lends-ref, ref-back, lends-shr}
+use denote.Lend.{lends-ref, lends-shr}
 use denote.Ref.{RefT, MutRef, ShrRef}
 use denote.Steps.{peeks, nothing}
 use denote.Struct.Laws as LL
@@ -47,7 +47,7 @@ use Rattle.libc.proofs.nanosleep as nanosleep
 use Rattle.libc.proofs.nanosleep.Symbol as nanosleep-def
 use Rattle.libc.proofs.nanosleep.Symbol.{name as #libc·nanosleep}
 use Rattle.libc.proofs.nanosleep.Met as nanosleep-thm
-use Rattle.pipes.proofs.Lies.{lies-in, lies-out}
+use Rattle.pipes.proofs.Lies.{lies-in}
 use Rattle.pipes.proofs.again.pause.Key.{name as #pipes·pause}
 use Rattle.pipes.proofs.again.pause as pause
 use Rattle.pipes.proofs.again.pause.Statement as stated
