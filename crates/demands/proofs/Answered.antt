@@ -2,7 +2,6 @@
 -- image gives all-zero tables, a refused write writes nothing, and no accepted answer carries a zero result."
 -- Each sentence is a theorem of what a call, a load and a write are proved to give: `stepOf` of any tables and any bytes, `loadOf` and `tablesOf` of any bytes, `writeOf` of any
 -- directory and any buffer (contracts of `executive::step`, `executive::load`, `image::write`, which have no `requires`).
-use mathlib.Core.Bool.{true}
 use mathlib.Core.Path.{_≡_, refl}
 use mathlib.Core.Logic.{_≢_, _⊎_, ⊎-elim, _↔_}
 use mathlib.Core.List.{List}

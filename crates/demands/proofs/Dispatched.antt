@@ -4,11 +4,11 @@ use mathlib.Core.Bool.{true}
 use mathlib.Core.Path.{_≡_}
 use mathlib.Core.Logic.{_≢_, _⊎_}
 use mathlib.Core.List.{List, []}
-use Prim.Native.Nat.{ℕ, _≤_}
+use Prim.Native.Nat.{ℕ, _≤_, _<_}
 use Rattle.words.specs.Words.{_among_}
 use Rattle.image.specs.declared.Outcome.the-variants.{Accepted}
 use Rattle.tables.specs.declared.Tables.{Tables}
-use Rattle.tables.specs.State.{State, readyQueue, queue, read}
+use Rattle.tables.specs.State.{State, readyQueue, queue, levelOf, read}
 use Rattle.calls.specs.Calls.{callOf, interrupts}
 use Rattle.meaning.specs.Services.{effect}
 use Rattle.meaning.specs.Step.{stepOf}
@@ -16,6 +16,7 @@ use Rattle.lawful.specs.Reached.{Reached, First}
 use Rattle.lawful.proofs.Steps.{reached-lawful}
 use Rattle.lawful.proofs.Stays.{effect-puts}
 use Rattle.lawful.proofs.After.{step-newly, step-undisturbed, step-left, interrupts-need-none}
+use Rattle.lawful.proofs.Best.{step-best}
 
 module _ (image : List ℕ) {t : Tables} (reached : Reached image t) where
   abbrev s : State
@@ -42,6 +43,11 @@ module _ (image : List ℕ) {t : Tables} (reached : Reached image t) where
     -- so of any call: who runs after it and did not before is the first of the best level that is ready
     pub newly-dispatched : let u = stepOf t bytes .tables in u .running ≢ t .running → u .running ≢ 0 → First left (u .running)
     newly-dispatched = step-newly t bytes
+
+    -- and in the tables that the call leaves, no level better than its own has a ready task
+    pub none-better : let u = stepOf t bytes .tables in u .running ≢ t .running → u .running ≢ 0
+        → (l : ℕ) → 1 ≤ l → l < levelOf (read u) (u .running) → queue (read u) (readyQueue l) ≡ []
+    none-better = step-best t bytes (reached-lawful image reached)
 
     -- ---- "an interrupt never takes the processor from a running background task": all but 34, the program check, which aborts it
     pub never-taken : callOf bytes .code among interrupts ≡ true → callOf bytes .code ≢ 34 → t .running ≢ 0 → stepOf t bytes .tables .running ≡ t .running

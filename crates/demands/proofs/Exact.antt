@@ -22,11 +22,11 @@ use Rattle.image.specs.Fits.{Bytes, Fits}
 use Rattle.image.specs.Load.{directoryOf, loadOf}
 use Rattle.image.specs.Write.{writeOf}
 use Rattle.image.proofs.RoundTrips as trips
-use Rattle.image.proofs.Loads.{good, load-accepted, check-is-load}
+use Rattle.image.proofs.Loads.{good, check-is-load}
 use Rattle.tables.specs.declared.Tables.{Tables}
 use Rattle.meaning.specs.Step.{stepOf, tablesOf, lineOf, loadLine}
 use Rattle.lawful.specs.Reached.{Reached}
-use Rattle.lawful.proofs.After.{refused-line, accepted-line, loaded-line, loaded-directory, reached-loads, reached-directory}
+use Rattle.lawful.proofs.After.{refused-line, accepted-line, loaded-line, reached-loads, reached-directory}
 
 -- ---- "same answer, .. same running task": the three numbers. A refused call names the running task unchanged, 0 with refusal 9; an accepted one names that of its tables
 module _ (t : Tables) (bytes : List ℕ) where
@@ -50,7 +50,8 @@ pub of-512 : (image : List ℕ) → refusalOf (loadOf image .outcome) ≡ 0 → 
 of-512 image e = good image (rw (check-is-load image) at e) .long
 
 -- and so does the directory of the tables, after any calls
-pub still-written-back : (image buffer : List ℕ) {t : Tables} → Reached image t → Bytes image → length buffer ≡ 512 → writeOf (t .directory) buffer ≡ record { outcome = Accepted 1; buffer = image }
+pub still-written-back : (image buffer : List ℕ) {t : Tables} → Reached image t → Bytes image → length buffer ≡ 512
+    → writeOf (t .directory) buffer ≡ record { outcome = Accepted 1; buffer = image }
 still-written-back image buffer r bytes long = rw (reached-directory image r) (written-back image buffer bytes long (reached-loads image r))
 
 -- ---- "and a directory written and loaded comes back equal"

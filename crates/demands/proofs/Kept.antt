@@ -1,9 +1,9 @@
 -- Demand 3: "From a loaded image, after any sequence of calls, refused ones included, the tables that demand 2 prescribes hold together." Each sentence is a theorem of the tables t
 -- that are reached from an image, `Reached image t`. Here: places, threads, core, and who waits; who is linked is in Aborted, who runs in Dispatched.
 use mathlib.Core.Bool.{true, false}
-use mathlib.Core.Path.{_≡_, refl}
+use mathlib.Core.Path.{_≡_}
 use mathlib.Core.Logic.{_≢_, _↔_}
-use mathlib.Core.List.{List, [], _∷_}
+use mathlib.Core.List.{List, _∷_}
 use Prim.Native.Nat.{ℕ, _+_, _-_, _≤_, _<_}
 use native.Mathlib.Omega.{arith}
 use lib.ListN.{getD}

@@ -50,7 +50,8 @@ module _ (t : Tables) (bytes : List ℕ) where
   step-undisturbed n d =
       ⊎-elim (λ z. rw (z .1, refused-leaves t (firstOf (refusals t bytes)))) (λ z. rw (z .1) (undisturbed (read t) (callOf bytes) n d)) (step-ends t bytes)
 
-  pub step-left : (r : ℕ) → stepOf t bytes .outcome ≡ Accepted r → (stepOf t bytes .tables .running ≡ left .running) ⊎ ((left .running ≡ 0) × First left (stepOf t bytes .tables .running))
+  pub step-left : (r : ℕ) → stepOf t bytes .outcome ≡ Accepted r
+      → (stepOf t bytes .tables .running ≡ left .running) ⊎ ((left .running ≡ 0) × First left (stepOf t bytes .tables .running))
   unfolding accepted
   step-left r e =
       ⊎-elim (λ z. absurd (z .0 (accepted-where (step-outcome t bytes) r .0 e .0))) (λ z. rw (z .1) (newly-first left)) (step-ends t bytes)

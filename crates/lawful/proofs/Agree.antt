@@ -3,7 +3,7 @@
 use mathlib.Core.Path.{_≡_, refl, sym, ap, _∙_}
 use mathlib.Core.Logic.{_≢_, ⊎-elim, _↔_}
 use mathlib.Core.List.{List, [], _∷_, _++_}
-use Prim.Native.Nat.{ℕ, zero, suc, _≤_, _<_}
+use Prim.Native.Nat.{ℕ, suc, _≤_, _<_}
 use native.Mathlib.Omega.{arith}
 use lib.ListN.{length, getD}
 use Rattle.threads.specs.declared.Threads.{Threads}
@@ -128,8 +128,9 @@ module _ (t : Threads) (s : Sound t) where
   -- ---- They name blocks.
   pub names-blocks : (y : ℕ) → y ≤ 40 → (getD (t .fwd) y 0 ≤ 40) × (getD (t .back) y 0 ≤ 40)
   names-blocks y b =
-      ⊎-elim (λ z. let i : y ≡ 0 = omega (arith, z) in rw i (omega (arith, fwd-zero, back-zero)))
-      (λ z. placed y (λ o. omega (arith, none-behind y z b o, none-ahead y z b o)) (λ c. (rw (c .next) (first-low (c .behind) (c .blocks-behind)), rw (c .prev) (last-low (c .ahead) (c .blocks-ahead))))) (under-or-from y 1)
+      ⊎-elim (λ (z : y < 1). let i : y ≡ 0 = omega (arith, z) in rw i (omega (arith, fwd-zero, back-zero)))
+      (λ z. placed y (λ o. omega (arith, none-behind y z b o, none-ahead y z b o))
+      (λ c. (rw (c .next) (first-low (c .behind) (c .blocks-behind)), rw (c .prev) (last-low (c .ahead) (c .blocks-ahead))))) (under-or-from y 1)
 
   -- ---- The first of a queue has none before it, and no other block of it has; the last has none behind it, and no other.
   module _ (q : ℕ) (h : q < 9) where

@@ -76,3 +76,4 @@ pub mod Never
 pub mod Plain
 pub mod Agree
 pub mod After
+pub mod Best
