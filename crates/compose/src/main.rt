@@ -1,5 +1,6 @@
 // Turns a session in words into the bytes that the desk reads: the 512 of the image, then 16 for each call. A bad line is refused with its number and the
-// reason, on standard error, and nothing is written from there on.
+// reason, on standard error, and nothing is written from there on. Where the input cannot be read or the output cannot be written, it says so there too, with
+// how many calls were written.
 //
 // It knows the text form of docs/WORDS.md, the image and the 16 bytes of a call, and nothing of tables. A read may end at any byte.
 mod call_lines;
@@ -21,12 +22,12 @@ fn some(s: Session) -> Session
     ensures { λ r. ⌜ Held r ⌝ }
 {
     let mut buffer = [0u8; 512];
-    let got = libc::read(STDIN_FILENO, &mut buffer);
-    if got < 0 {
-        messages::unread();
+    let got = pipes::some(STDIN_FILENO, &mut buffer);
+    if got.failed {
+        saying::unread_after(s.calls);
         return session::stopped(s);
     }
-    let n = io::count(got, &buffer);
+    let n = got.count;
     if n == 0 {
         return session::finish(s);
     }

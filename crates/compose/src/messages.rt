@@ -5,12 +5,16 @@ use libc::STDERR_FILENO;
 ghost use Rattle.compose.specs.Words.{Inside};
 
 fn say(text: &[u8]) {
-    io::write_all(STDERR_FILENO, text);
+    pipes::give(STDERR_FILENO, text);
+}
+
+fn say_number(number: u64) {
+    saying::written(STDERR_FILENO, lines::field(lines::empty(), b"", number));
 }
 
 fn say_line(number: u64) {
     say(b"line ");
-    io::print_decimal(STDERR_FILENO, number);
+    say_number(number);
     say(b": ");
 }
 
@@ -63,7 +67,7 @@ fn say_large(line: &[u8], s: Scan, most: u64)
 {
     say_word(line, s);
     say(b" is more than ");
-    io::print_decimal(STDERR_FILENO, most);
+    say_number(most);
     say(b", the most that fits here");
 }
 
@@ -113,7 +117,7 @@ pub fn refused(number: u64, line: &[u8], s: Scan)
 // Why an image is not written.
 fn say_image(refusal: u8) {
     say(b"the image is refused by ");
-    io::print_decimal(STDERR_FILENO, refusal as u64);
+    say_number(refusal as u64);
     match refusal {
         4 => say(b": it has no module"),
         5 => say(b": 'every' is missing, or 0"),
@@ -133,12 +137,4 @@ pub fn refused_at_end(refusal: u8) {
     say(b"at the end: ");
     say_image(refusal);
     say(b"\n");
-}
-
-pub fn unread() {
-    say(b"the input cannot be read\n");
-}
-
-pub fn unwritten() {
-    say(b"the output cannot be written\n");
 }

@@ -18,7 +18,8 @@ ghost use lib.ListN.{length};
 ghost use Rattle.compose.specs.Words.{Within, Inside};
 ghost use Rattle.compose.specs.Session.{Held};
 
-// The line so far and its number; the image so far, and whether `every` and `events` were given; whether calls have begun; whether to go on.
+// The line so far and its number; the image so far, and whether `every` and `events` were given; whether calls have begun, and how many were written;
+// whether to go on.
 pub struct Session {
     pub line: [u8; 200],
     pub length: usize,
@@ -27,6 +28,7 @@ pub struct Session {
     pub timed: bool,
     pub listed: bool,
     pub calling: bool,
+    pub calls: u64,
     pub going: bool,
 }
 
@@ -42,6 +44,7 @@ pub fn start() -> Session
         timed: false,
         listed: false,
         calling: false,
+        calls: 0,
         going: true,
     }
 }
@@ -59,10 +62,10 @@ fn written(s: Session, bytes: &[u8]) -> Session
     requires { ⌜ Held s ⌝ }
     ensures { λ r. ⌜ Held r ⌝ }
 {
-    if io::write_all(STDOUT_FILENO, bytes) {
+    if pipes::give(STDOUT_FILENO, bytes) {
         return s;
     }
-    messages::unwritten();
+    saying::unwritten_after(s.calls);
     stopped(s)
 }
 
@@ -126,7 +129,9 @@ fn called(s: Session, line: &[u8], c: Composed) -> Session
         return after;
     }
     let call = c.call;
-    written(after, &calls::write(call))
+    let mut done = written(after, &calls::write(call));
+    done.calls = std::num::wrapping_add_u64(done.calls, 1);
+    done
 }
 
 // What is wrong with a line of the image, before the words behind its first are read.
