@@ -236,21 +236,40 @@ static int accepted(struct khilzurgee_tables *tables, struct call call)
     return khilzurgee_advance(tables, bytes, CALL_LENGTH).refusal == 0;
 }
 
+static int sample_reached(struct khilzurgee_tables *tables)
+{
+    size_t calls = sizeof sample_calls / sizeof sample_calls[0];
+    for (size_t i = 0; i < calls; i++) {
+        if (!accepted(tables, sample_calls[i])) {
+            return 0;
+        }
+    }
+    return 1;
+}
+
+static int chain_reached(struct khilzurgee_tables *tables)
+{
+    const struct call start = {OPERATOR_START, 0, 0, 0, 0, 0};
+    const struct call link = {LINK, 0, 0, 0, 0, 0};
+    for (int block = 1; block <= TASKS; block++) {
+        if (!accepted(tables, block == 1 ? start : link)) {
+            return 0;
+        }
+    }
+    return 1;
+}
+
 int tables_reached(struct khilzurgee_tables *tables, enum base base)
 {
     struct executive executive;
     uint8_t image[IMAGE_LENGTH];
-    const struct call start = {OPERATOR_START, 0, 0, 0, 0, 0};
-    const struct call link = {LINK, 0, 0, 0, 0, 0};
-    int good = tables_read(&executive, &loaded) == NULL;
+    if (tables_read(&executive, &loaded) != NULL) {
+        return 0;
+    }
     image_put(&executive.directory, image);
-    good = good && khilzurgee_load(tables, image, IMAGE_LENGTH).refusal == 0;
-    for (size_t i = 0; base == SAMPLE && good
-         && i < sizeof sample_calls / sizeof sample_calls[0]; i++) {
-        good = accepted(tables, sample_calls[i]);
+    if (khilzurgee_load(tables, image, IMAGE_LENGTH).refusal != 0) {
+        return 0;
     }
-    for (int block = 1; base == CHAIN && good && block <= TASKS; block++) {
-        good = accepted(tables, block == 1 ? start : link);
-    }
-    return good;
+    return base == SAMPLE ? sample_reached(tables)
+        : base == CHAIN ? chain_reached(tables) : 1;
 }
