@@ -279,9 +279,24 @@ static void change_block(struct executive *executive, struct random *random)
     }
 }
 
+/* A task of a chain of LINKs and one above it change their parents: a ring, in
+   which each still has one child. */
+static void close_ring(struct executive *executive, struct random *random)
+{
+    unsigned block = 1 + random_below(random, TASKS);
+    unsigned steps = 1 + random_below(random, 3);
+    unsigned above = block;
+    for (unsigned i = 0; i < steps && executive->task[above].parent != 0; i++) {
+        above = executive->task[above].parent;
+    }
+    uint8_t parent = executive->task[block].parent;
+    executive->task[block].parent = executive->task[above].parent;
+    executive->task[above].parent = parent;
+}
+
 void edit_meaning(struct executive *executive, struct random *random)
 {
-    switch (random_below(random, 6)) {
+    switch (random_below(random, 7)) {
     case 0:
         swap_turns(executive, random);
         break;
@@ -294,6 +309,9 @@ void edit_meaning(struct executive *executive, struct random *random)
         break;
     case 4:
         move_run(executive, random);
+        break;
+    case 5:
+        close_ring(executive, random);
         break;
     default:
         change_block(executive, random);

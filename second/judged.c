@@ -4,8 +4,8 @@
    both, and answers and tables have to agree.
 
    usage: judged SEED EDITS <SESSION   so many edited tables after each call */
+#include "beside.h"
 #include "edits.h"
-#include "rules.h"
 
 #include <stdio.h>
 #include <stdlib.h>
@@ -30,62 +30,17 @@ static void count_words(const char *words)
     }
 }
 
-static void differs(unsigned long call, const char *what, const char *words)
-{
-    fprintf(stderr, "judged: after call %lu: %s (%s)\n", call, what,
-            words == NULL ? "no rule is broken" : words);
-    exit(1);
-}
-
-/* Tables that break a rule are answered 9, and stay to the last byte. */
-static void judge_broken(const struct khilzurgee_tables *edited,
-                         const uint8_t *bytes, unsigned long call,
-                         const char *words)
-{
-    struct khilzurgee_tables after = *edited;
-    struct khilzurgee_line line =
-        khilzurgee_advance(&after, bytes, CALL_LENGTH);
-    if (line.refusal != 9 || line.result != 0 || line.running != 0) {
-        differs(call, "the library takes tables that break a rule", words);
-    }
-    if (memcmp(&after, edited, sizeof after) != 0) {
-        differs(call, "an answer of 9 changes the tables", words);
-    }
-    count_words(words);
-}
-
-/* Tables that break none: both answer the call alike, and leave the same. */
-static void judge_unbroken(const struct khilzurgee_tables *edited,
-                           struct executive *executive, const uint8_t *bytes,
-                           unsigned long call)
-{
-    struct khilzurgee_tables after = *edited;
-    struct khilzurgee_tables own;
-    struct khilzurgee_line line =
-        khilzurgee_advance(&after, bytes, CALL_LENGTH);
-    struct answer answer = executive_step(executive, bytes, CALL_LENGTH);
-    if (line.refusal != answer.refusal || line.result != answer.result
-        || line.running != answer.running) {
-        differs(call, "the two answers differ", NULL);
-    }
-    tables_write(&own, executive);
-    if (memcmp(&after, &own, sizeof own) != 0) {
-        differs(call, "the two leave other tables", NULL);
-    }
-    unbroken++;
-    refused += line.refusal != 0;
-}
-
+/* One table, edited by chance, and one call on it. What this program reads of
+   the table as it was is given, too. */
 static void judge(const struct khilzurgee_tables *tables,
-                  const uint8_t *bytes, unsigned long call,
-                  struct random *random)
+                  const struct executive *read, const uint8_t *bytes,
+                  unsigned long call, struct random *random)
 {
     struct khilzurgee_tables edited = *tables;
-    struct executive executive;
-    const char *words = tables_read(&executive, &edited);
+    struct executive executive = *read;
     unsigned edits = 1 + random_below(random, 2);
     int meaning = random_one_in(random, 2);
-    for (unsigned i = 0; i < edits && words == NULL; i++) {
+    for (unsigned i = 0; i < edits; i++) {
         if (meaning) {
             edit_meaning(&executive, random);
         } else {
@@ -95,14 +50,17 @@ static void judge(const struct khilzurgee_tables *tables,
     if (meaning) {
         tables_write(&edited, &executive);
     }
-    words = tables_read(&executive, &edited);
-    if (words == NULL) {
-        words = rules_broken(&executive);
+    struct beside said = beside(&edited, bytes, CALL_LENGTH);
+    if (said.differs != NULL) {
+        fprintf(stderr, "judged: after call %lu: %s (%s)\n", call, said.differs,
+                said.rule == NULL ? "no rule is broken" : said.rule);
+        exit(1);
     }
-    if (words == NULL) {
-        judge_unbroken(&edited, &executive, bytes, call);
+    if (said.rule == NULL) {
+        unbroken++;
+        refused += said.line.refusal != 0;
     } else {
-        judge_broken(&edited, bytes, call, words);
+        count_words(said.rule);
     }
 }
 
@@ -138,8 +96,13 @@ int main(int count, char **arguments)
         return 1;
     }
     while (fread(bytes, 1, CALL_LENGTH, stdin) == CALL_LENGTH) {
+        struct executive read;
+        if (tables_read(&read, &tables) != NULL) {
+            fprintf(stderr, "judged: the tables after call %lu cannot be read\n", call);
+            return 1;
+        }
         for (unsigned long i = 0; i < edits; i++) {
-            judge(&tables, bytes, call, &random);
+            judge(&tables, &read, bytes, call, &random);
         }
         call++;
         khilzurgee_advance(&tables, bytes, CALL_LENGTH);

@@ -1,3 +1,4 @@
 pub mod Played
 pub mod Session
 pub mod Marked
+pub mod Worked

@@ -1,0 +1,171 @@
+/* Calls on either side of the line of each row of document 01's table of
+   refusals, and calls to which two rows apply. The numbers were found by hand,
+   from document 01. */
+#include "cases.h"
+
+/* A row: the refusal, 0 if accepted; the tables; the call's code, kind, number,
+   value, amount and set. */
+#define CALL(refusal, name, on, ...) \
+    {refusal, name, on, {__VA_ARGS__}, NOTHING, CALL_LENGTH, {NOTHING}}
+
+/* The same at the clock's end; with so many bytes; on tables that break a rule,
+   with so many bytes. */
+#define AT_THE_END(refusal, name, ...)                                  \
+    {refusal, name, USUAL, {__VA_ARGS__}, SET(clock, CLOCK_END), CALL_LENGTH, \
+     {NOTHING}}
+#define CUT(refusal, name, length, ...) \
+    {refusal, name, USUAL, {__VA_ARGS__}, NOTHING, length, {NOTHING}}
+#define BROKEN(refusal, name, length, ...) \
+    {refusal, name, USUAL, {__VA_ARGS__}, SET(running, 25), length, {NOTHING}}
+
+/* An accepted call, and what it leaves in a new block. */
+#define NEW_TASK(name, module, how_many, which, when, ...)                 \
+    {0, name, USUAL, {__VA_ARGS__}, NOTHING, CALL_LENGTH,                  \
+     {SET(tasks[3].program, module), SET(tasks[3].count, how_many),        \
+      SET(tasks[3].events, which), SET(tasks[3].time, when)}}
+#define NEW_REQUEST(name, from, what, so_many, ...)                        \
+    {0, name, USUAL, {__VA_ARGS__}, NOTHING, CALL_LENGTH,                  \
+     {SET(requests[4].owner, 1), SET(requests[4].device, from),            \
+      SET(requests[4].command, what), SET(requests[4].bytes, so_many)}}
+
+#define EVENTS_0_1 0x3
+#define EVENTS_0_2 0x5
+#define EVENTS_0_1_63 UINT64_C(0x8000000000000003)
+#define EVENT_63 UINT64_C(0x8000000000000000)
+
+const char code_letters[] = "-t---tttttt-tttt"
+                            "----------------"
+                            "kktk";
+
+const struct refusal_case refusal_cases[] = {
+
+    /* 9 and 10 */
+    BROKEN(9, "tables that break a rule", 16, FREEMAIN, 0, 0, 0, 0, 0),
+    CUT(10, "15 bytes", 15, FREEMAIN, 0, 0, 0, 0, 0),
+    CUT(10, "17 bytes", 17, FREEMAIN, 0, 0, 0, 0, 0),
+    CUT(10, "no byte", 0, FREEMAIN, 0, 0, 0, 0, 0),
+
+    /* 24 */
+    CALL(24, "code 0", USUAL, 0, 0, 0, 0, 0, 0),
+    CALL(0, "FREEMAIN", USUAL, FREEMAIN, 0, 0, 0, 0, 0),
+    CALL(24, "code 2", USUAL, 2, 0, 0, 0, 0, 0),
+    CALL(24, "code 11", USUAL, 11, 0, 0, 0, 0, 0),
+    CALL(24, "code 31", USUAL, 31, 0, 0, 0, 0, 0),
+    CALL(0, "program check", USUAL, PROGRAM_CHECK, 0, 0, 0, 0, 0),
+    CALL(24, "code 36", USUAL, 36, 0, 0, 0, 0, 0),
+    CALL(24, "code 255", USUAL, 255, 0, 0, 0, 0, 0),
+
+    /* 11 */
+    CALL(11, "no task: FREEMAIN", IDLE, FREEMAIN, 0, 0, 0, 0, 0),
+    CALL(11, "no task: program check", IDLE, PROGRAM_CHECK, 0, 0, 0, 0, 0),
+    CALL(0, "no task: timer", IDLE, TIMER, 0, 0, 0, 0, 0),
+    CALL(0, "no task: start 0", IDLE, OPERATOR_START, 0, 0, 0, 0, 0),
+
+    /* 12: M is 3 */
+    CALL(0, "LINK 2", USUAL, LINK, 0, 2, 0, 0, 0),
+    CALL(12, "LINK 3", USUAL, LINK, 0, 3, 0, 0, 0),
+    CALL(0, "SCHEDULE 2", USUAL, SCHEDULE, AT_ONCE, 2, 0, 0, 0),
+    CALL(12, "SCHEDULE 3", USUAL, SCHEDULE, AT_ONCE, 3, 0, 0, 0),
+    CALL(0, "start 2", USUAL, OPERATOR_START, 0, 2, 0, 0, 0),
+    CALL(12, "start 3", USUAL, OPERATOR_START, 0, 3, 0, 0, 0),
+
+    /* 19: the events 0, 1 and 63 are defined */
+    CALL(0, "TEST EVENT 1", USUAL, TEST_EVENT, 0, 1, 0, 0, 0),
+    CALL(19, "TEST EVENT 2", USUAL, TEST_EVENT, 0, 2, 0, 0, 0),
+    CALL(0, "TEST EVENT 63", USUAL, TEST_EVENT, 0, 63, 0, 0, 0),
+    CALL(19, "TEST EVENT 64", USUAL, TEST_EVENT, 0, 64, 0, 0, 0),
+    CALL(0, "SIGNAL 63 off", USUAL, SIGNAL, 0, 63, 0, 0, 0),
+    CALL(19, "SIGNAL 64 off", USUAL, SIGNAL, 0, 64, 0, 0, 0),
+
+    /* 22 */
+    CALL(0, "READ device 249", USUAL, READ, 0, 249, 0, 1, 0),
+    CALL(22, "READ device 250", USUAL, READ, 0, 250, 0, 1, 0),
+    CALL(0, "WRITE device 249", USUAL, WRITE, 0, 249, 0, 1, 0),
+    CALL(22, "WRITE device 250", USUAL, WRITE, 0, 250, 0, 1, 0),
+
+    /* 23 */
+    CALL(23, "READ no byte", USUAL, READ, 0, 7, 0, 0, 0),
+    CALL(0, "READ 65535 bytes", USUAL, READ, 0, 7, 0, 65535, 0),
+    CALL(23, "READ 65536 bytes", USUAL, READ, 0, 7, 0, 65536, 0),
+    CALL(23, "WRITE no byte", USUAL, WRITE, 0, 7, 0, 0, 0),
+    CALL(23, "WRITE 65536 bytes", USUAL, WRITE, 0, 7, 0, 65536, 0),
+    CALL(0, "SIGNAL 0 on", USUAL, SIGNAL, 0, 0, 1, 0, 0),
+    CALL(23, "SIGNAL 0 by 2", USUAL, SIGNAL, 0, 0, 2, 0, 0),
+
+    /* 18: the requests 1, 3 and 16 are of task 1, which runs; 2 is of task 2 */
+    CALL(18, "CHECK 0", USUAL, CHECK, 0, 0, 0, 0, 0),
+    CALL(0, "CHECK 1, on the channel", USUAL, CHECK, 0, 1, 0, 0, 0),
+    CALL(18, "CHECK 2, of another", USUAL, CHECK, 0, 2, 0, 0, 0),
+    CALL(0, "CHECK 3, done", USUAL, CHECK, 0, 3, 0, 0, 0),
+    CALL(18, "CHECK 4, free", USUAL, CHECK, 0, 4, 0, 0, 0),
+    CALL(0, "CHECK 16, done", USUAL, CHECK, 0, 16, 0, 0, 0),
+    CALL(18, "CHECK 17", USUAL, CHECK, 0, 17, 0, 0, 0),
+
+    /* 13 */
+    CALL(0, "SCHEDULE kind 0", USUAL, SCHEDULE, 0, 0, 0, 0, 0),
+    CALL(0, "SCHEDULE kind 3", USUAL, SCHEDULE, 3, 0, 0, 0, 0),
+    CALL(13, "SCHEDULE kind 4", USUAL, SCHEDULE, 4, 0, 0, 0, 0),
+    CALL(13, "WAIT kind 0", USUAL, WAIT, 0, 0, 0, 0, 0),
+    CALL(0, "WAIT kind 2", USUAL, WAIT, 2, 0, 0, 0, 0),
+    CALL(0, "WAIT for 1 of events 0, 1", USUAL, WAIT, 1, 0, 1, 0, EVENTS_0_1),
+    CALL(13, "WAIT for 1 of events 0, 2", USUAL, WAIT, 1, 0, 1, 0, EVENTS_0_2),
+    CALL(0, "WAIT kind 2, set not used", USUAL, WAIT, 2, 0, 0, 0, EVENTS_0_2),
+
+    /* 14 */
+    CALL(14, "WAIT for 0 of events 0, 1", USUAL, WAIT, 1, 0, 0, 0, EVENTS_0_1),
+    CALL(0, "WAIT for 2 of events 0, 1", USUAL, WAIT, 1, 0, 2, 0, EVENTS_0_1),
+    CALL(14, "WAIT for 3 of events 0, 1", USUAL, WAIT, 1, 0, 3, 0, EVENTS_0_1),
+    CALL(0, "SCHEDULE on 3 of events 0, 1, 63", USUAL,
+         SCHEDULE, 1, 0, 3, 0, EVENTS_0_1_63),
+    CALL(14, "SCHEDULE on 4 of events 0, 1, 63", USUAL,
+         SCHEDULE, 1, 0, 4, 0, EVENTS_0_1_63),
+    CALL(14, "WAIT for 0 of no event", USUAL, WAIT, 1, 0, 0, 0, 0),
+    CALL(14, "WAIT for 1 of no event", USUAL, WAIT, 1, 0, 1, 0, 0),
+
+    /* 15 */
+    CALL(0, "clock 0: WAIT 4294967295 cycles", USUAL, WAIT, 3, 0, 0, 4294967295, 0),
+    CALL(0, "clock 1: WAIT 4294967294 cycles", FULL, WAIT, 3, 0, 0, 4294967294, 0),
+    CALL(15, "clock 1: WAIT 4294967295 cycles", FULL, WAIT, 3, 0, 0, 4294967295, 0),
+    CALL(0, "clock 1: WAIT until 4294967295", FULL, WAIT, 2, 0, 0, 4294967295, 0),
+
+    /* 16 and 17 */
+    CALL(0, "one task block: LINK 0", LAST, LINK, 0, 0, 0, 0, 0),
+    CALL(16, "no task block: LINK 0", FULL, LINK, 0, 0, 0, 0, 0),
+    CALL(16, "no task block: SCHEDULE 0", FULL, SCHEDULE, 0, 0, 0, 0, 0),
+    CALL(16, "no task block: start 0", FULL, OPERATOR_START, 0, 0, 0, 0, 0),
+    CALL(0, "one request block: READ", LAST, READ, 0, 7, 0, 4, 0),
+    CALL(17, "no request block: READ", FULL, READ, 0, 7, 0, 4, 0),
+    CALL(17, "no request block: WRITE", FULL, WRITE, 0, 7, 0, 4, 0),
+
+    /* 20 and 21 */
+    CALL(0, "I/O done", USUAL, IO_DONE, 0, 0, 0, 0, 0),
+    CALL(20, "empty channel: I/O done", FULL, IO_DONE, 0, 0, 0, 0, 0),
+    CALL(0, "timer", USUAL, TIMER, 0, 0, 0, 0, 0),
+    CALL(0, "clock 4294967294: timer", LAST, TIMER, 0, 0, 0, 0, 0),
+    AT_THE_END(21, "clock 4294967295: timer", TIMER, 0, 0, 0, 0, 0),
+
+    /* Two rows apply: the first in the order of the table is given. */
+    BROKEN(9, "9, 10", 15, FREEMAIN, 0, 0, 0, 0, 0),
+    BROKEN(9, "9, 24", 16, 0, 0, 0, 0, 0, 0),
+    CALL(24, "24, no task", IDLE, 2, 0, 0, 0, 0, 0),
+    CALL(19, "19, 23", USUAL, SIGNAL, 0, 2, 2, 0, 0),
+    CALL(22, "22, 23", USUAL, READ, 0, 250, 0, 0, 0),
+    CALL(12, "12, 16", FULL, OPERATOR_START, 0, 3, 0, 0, 0),
+    CALL(13, "13, 16", FULL, SCHEDULE, 4, 0, 0, 0, 0),
+    CALL(14, "14, 16", FULL, SCHEDULE, 1, 0, 2, 0, 0x1),
+    CALL(15, "15, 16", FULL, SCHEDULE, 3, 0, 0, 4294967295, 0),
+    CALL(22, "22, 17", FULL, READ, 0, 250, 0, 4, 0),
+    CALL(23, "23, 17", FULL, READ, 0, 7, 0, 0, 0),
+
+    /* Where the fields of a call go; a set that is read and not used. */
+    NEW_TASK("SCHEDULE 1 on 1 of event 0", 1, 1, 0x1, 0, SCHEDULE, 1, 1, 1, 0, 0x1),
+    NEW_TASK("SCHEDULE 2 at 16,909,060", 2, 0, 0, 16909060,
+             SCHEDULE, 2, 2, 0, 16909060, EVENT_63),
+    NEW_TASK("SCHEDULE 2 on 2 of events 1, 63", 2, 2, UINT64_C(0x8000000000000002), 0,
+             SCHEDULE, 1, 2, 2, 16909060, UINT64_C(0x8000000000000002)),
+    NEW_REQUEST("READ 513 bytes from device 249", 249, READ, 513, READ, 1, 249, 1, 513, 0x1),
+    NEW_REQUEST("WRITE 65535 bytes to device 0", 0, WRITE, 65535, WRITE, 0, 0, 0, 65535, 0),
+};
+
+const size_t refusal_cases_count =
+    sizeof refusal_cases / sizeof refusal_cases[0];
