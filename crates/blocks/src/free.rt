@@ -11,6 +11,9 @@ ghost use Rattle.meaning.specs.Services.{created};
 use tables::Request;
 use tables::Tables;
 use tables::Task;
+use tables::names::DONE;
+use tables::names::FREE;
+use tables::names::REQUEST_BLOCKS;
 
 // The lowest-numbered block of a set; 32 where it is empty.
 pub fn lowest(blocks: u32) -> u8
@@ -29,7 +32,7 @@ fn new_task(program: u8, parent: u8) -> Task
         count: 0,
         program: program as u16,
         request: 0,
-        place: 0,
+        place: FREE,
         parent: parent,
         core: 0,
         start: 0,
@@ -66,7 +69,7 @@ pub fn free_request(t: Tables, n: u8) -> Tables
     let mut r = t;
     r.freeRequests = words::sets32::adding(r.freeRequests, n as u32);
     r.requests[n as usize] = Request {
-        place: 0,
+        place: FREE,
         owner: 0,
         device: 0,
         command: 0,
@@ -81,7 +84,7 @@ fn free_if_done(t: Tables, k: u8, n: u8) -> Tables
     ensures { λ r. ⌜ Shows r (freedIfDone k n (read t)) ⌝ }
 {
     let q = t.requests[n as usize];
-    if (q.owner == k) & (q.place == 3) {
+    if (q.owner == k) & (q.place == DONE) {
         return free_request(t, n);
     }
     t
@@ -94,7 +97,7 @@ pub fn free_done(t: Tables, k: u8) -> Tables
 {
     let mut u = t;
     let mut n: u8 = 0;
-    while n < 16 {
+    while n < REQUEST_BLOCKS {
         n += 1;
         u = free_if_done(u, k, n);
     }

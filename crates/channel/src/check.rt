@@ -10,13 +10,15 @@ use blocks::free;
 use calls::Call;
 use tables::Tables;
 use tables::Task;
+use tables::names::DONE;
+use tables::names::IN_CHECK;
 
 // A task block in CHECK, which waits for the request r.
 fn awaiting(task: Task, r: u8) -> Task
     ensures { λ x. ⌜ x ≡ awaitingRequest task r ⌝ }
 {
     let mut x = task;
-    x.place = 7;
+    x.place = IN_CHECK;
     x.count = 0;
     x.events = 0;
     x.time = 0;
@@ -44,7 +46,7 @@ pub fn check(t: Tables, c: Call) -> Tables
 {
     let r = c.number;
     let q = t.requests[r as usize];
-    if q.place == 3 {
+    if q.place == DONE {
         return free::free_request(t, r);
     }
     wait_for(t, r)

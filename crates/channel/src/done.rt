@@ -15,6 +15,9 @@ use ending::finish;
 use ending::pending;
 use scheduler::ready;
 use tables::Tables;
+use tables::names::DONE;
+use tables::names::ENDING;
+use tables::names::IN_CHECK;
 
 // The request leaves the channel, and is marked done.
 fn leave_channel(t: Tables) -> Tables
@@ -23,7 +26,7 @@ fn leave_channel(t: Tables) -> Tables
 {
     let mut u = t;
     let r = u.channel;
-    u.requests[r as usize].place = 3;
+    u.requests[r as usize].place = DONE;
     u.channel = 0;
     u
 }
@@ -39,12 +42,12 @@ pub fn io_done(t: Tables) -> Tables
     let k = q.owner;
     let x = t.tasks[k as usize];
     let left = leave_channel(t);
-    if (x.place == 7) & (x.request == r as u16) {
+    if (x.place == IN_CHECK) & (x.request == r as u16) {
         let freed = free::free_request(left, r);
         let ready = ready::make_ready(freed, k);
         return queue::next(ready);
     }
-    if (x.place == 8) & !pending::pending(left, k) {
+    if (x.place == ENDING) & !pending::pending(left, k) {
         let freed = free::free_request(left, r);
         let over = finish::finish(freed, k);
         return queue::next(over);

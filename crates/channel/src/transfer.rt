@@ -12,6 +12,7 @@ use calls::Call;
 use meaning::Given;
 use tables::Request;
 use tables::Tables;
+use tables::names::QUEUED;
 
 // The request block r is taken for the caller's request, in no queue yet.
 fn ask(t: Tables, r: u8, c: Call) -> Tables
@@ -21,7 +22,7 @@ fn ask(t: Tables, r: u8, c: Call) -> Tables
     let mut u = t;
     u.freeRequests = words::sets32::dropping(u.freeRequests, r as u32);
     u.requests[r as usize] = Request {
-        place: 1,
+        place: QUEUED,
         owner: u.running,
         device: c.number,
         command: c.code,

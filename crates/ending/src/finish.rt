@@ -8,6 +8,7 @@ use blocks::free;
 use scheduler::ready;
 use scheduler::serve;
 use tables::Tables;
+use tables::names::ENDING;
 
 // The parent p, if there is one, is made ready.
 fn parent_ready(t: Tables, p: u8) -> Tables
@@ -41,7 +42,7 @@ pub fn end(t: Tables, k: u8) -> Tables
         return finish(t, k);
     }
     let mut u = t;
-    let x = blocks::moving(u.tasks[k as usize], 8);
+    let x = blocks::moving(u.tasks[k as usize], ENDING);
     u.tasks[k as usize] = x;
     u
 }

@@ -3,6 +3,9 @@ ghost use mathlib.Core.Path.{_≡_};
 ghost use Rattle.tables.specs.State.{read};
 ghost use Rattle.meaning.specs.Finish.{pending};
 use tables::Tables;
+use tables::names::ON_CHANNEL;
+use tables::names::QUEUED;
+use tables::names::REQUEST_COUNT;
 
 // Some request of the task k is queued or on the channel.
 pub fn pending(t: Tables, k: u8) -> bool
@@ -10,10 +13,10 @@ pub fn pending(t: Tables, k: u8) -> bool
 {
     let mut n: usize = 0;
     let mut some = false;
-    while n < 16 {
+    while n < 15 {
         n += 1;
         let q = t.requests[n];
-        some = some | ((q.owner == k) & ((q.place == 1) | (q.place == 2)));
+        some = some | ((q.owner == k) & ((q.place == QUEUED) | (q.place == ON_CHANNEL)));
     }
     some
 }

@@ -12,12 +12,14 @@ ghost use Rattle.scheduler.specs.Core.{seatOf, Granting};
 use pools::Found;
 use tables::Tables;
 use tables::Task;
+use tables::names::LEVELS;
+use tables::names::NOT_GRANTED;
 
 // A task of a module of n units still needs core.
 pub fn needs(task: Task, n: u8) -> bool
     ensures { λ r. ⌜ r ≡ (ltb 0 n && eqb (task .core) NotGranted) ⌝ }
 {
-    (0 < n) & (task.core == 0)
+    (0 < n) & (task.core == NOT_GRANTED)
 }
 
 // The start at which a newcomer gets n units of the level: nowhere behind others that wait.
@@ -25,7 +27,7 @@ pub fn seat(t: Tables, level: u8, n: u8) -> Found
     requires { ⌜ Sound (t .threads) × (level ≤ 3) ⌝ }
     ensures { λ r. ⌜ r ≡ seatOf (read t) level n ⌝ }
 {
-    if blocks::first_of(t, level + 3) != 0 {
+    if blocks::first_of(t, level + LEVELS) != 0 {
         return Found::Nowhere;
     }
     pools::find(t.pools[level as usize], n)

@@ -7,6 +7,7 @@ ghost use Rattle.tables.specs.State.{read, queue};
 ghost use Rattle.tables.specs.Held.{Held, Shows};
 ghost use Rattle.meaning.specs.Ready.{bestReady, runsFirst, dispatched};
 use tables::Tables;
+use tables::names::RUNNING;
 
 // The best level that has a ready task, or 0.
 pub fn best_ready(t: Tables) -> u8
@@ -32,7 +33,7 @@ pub fn run_first(t: Tables, level: u8) -> Tables
 {
     let k = blocks::first_of(t, level);
     let mut r = blocks::leave(t, level, k);
-    let x = blocks::moving(r.tasks[k as usize], 1);
+    let x = blocks::moving(r.tasks[k as usize], RUNNING);
     r.tasks[k as usize] = x;
     r.running = k;
     r

@@ -7,6 +7,9 @@ ghost use Rattle.meaning.specs.Ready.{placed, madeReady};
 use crate::core;
 use pools::Found;
 use tables::Tables;
+use tables::names::IN_CORE;
+use tables::names::LEVELS;
+use tables::names::READY;
 
 // The task k, of no queue, in the place p and at the end of the queue q.
 pub fn put_in(t: Tables, q: u8, p: u8, k: u8) -> Tables
@@ -26,12 +29,12 @@ pub fn make_ready(t: Tables, k: u8) -> Tables
     let level = e.level;
     let n = e.units;
     if !core::needs(t.tasks[k as usize], n) {
-        return put_in(t, level, 2, k);
+        return put_in(t, level, READY, k);
     }
     let seat = core::seat(t, level, n);
     let Found::At(a) = seat else {
-        return put_in(t, level + 3, 3, k);
+        return put_in(t, level + LEVELS, IN_CORE, k);
     };
     let u = core::grant(t, k, level, n, a);
-    put_in(u, level, 2, k)
+    put_in(u, level, READY, k)
 }

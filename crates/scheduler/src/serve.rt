@@ -11,15 +11,19 @@ use crate::core;
 use crate::ready;
 use pools::Found;
 use tables::Tables;
+use tables::names::GAVE_BACK;
+use tables::names::HOLDS_RUN;
+use tables::names::LEVELS;
+use tables::names::READY;
 
 // The first of the level's core queue is granted its units and is ready.
 pub fn serve_one(t: Tables, level: u8, k: u8, n: u8, a: u8) -> Tables
     requires { ⌜ Seating t level k n a ⌝ }
     ensures { λ r. ⌜ Shows r (seated (read t) (coreQueue level) k) ⌝ }
 {
-    let v = blocks::leave(t, level + 3, k);
+    let v = blocks::leave(t, level + LEVELS, k);
     let u = core::grant(v, k, level, n, a);
-    ready::put_in(u, level, 2, k)
+    ready::put_in(u, level, READY, k)
 }
 
 // The level's core queue is served from the front, up to the first that does not fit.
@@ -27,7 +31,7 @@ pub fn serve(t: Tables, level: u8) -> Tables
     requires { ⌜ Sound (t .threads) × Waiters (read t) level ⌝ }
     ensures { λ r. ⌜ Shows r (served (read t) level) ⌝ }
 {
-    let q = level + 3;
+    let q = level + LEVELS;
     let mut u = t;
     let mut k = blocks::first_of(u, q);
     while k != 0 {
@@ -52,7 +56,7 @@ fn unseat(t: Tables, k: u8) -> Tables
     let e = blocks::entry_of(t, k);
     let mut x = r.tasks[k as usize];
     let p = pools::give_back(r.pools[e.level as usize], x.start, e.units);
-    x.core = 2;
+    x.core = GAVE_BACK;
     x.start = 0;
     r.tasks[k as usize] = x;
     r.pools[e.level as usize] = p;
@@ -65,7 +69,7 @@ pub fn give_back(t: Tables, k: u8) -> Tables
     ensures { λ r. ⌜ Shows r (givenBack (read t) k) ⌝ }
 {
     let x = t.tasks[k as usize];
-    if x.core != 1 {
+    if x.core != HOLDS_RUN {
         return t;
     }
     let e = blocks::entry_of(t, k);

@@ -11,11 +11,16 @@ ghost use mathlib.Core.List.{[]};
 ghost use lib.ListN.{replicate};
 ghost use Rattle.tables.specs.Blocks.{noTask, noRequest};
 ghost use Rattle.tables.specs.State.{state, tabled, loaded, allZero};
+
+pub mod names;
+
 use image::Directory;
+use names::FREE;
+use names::REQUEST_SLOTS;
+use names::TASK_SLOTS;
 use threads::Threads;
 
-// place: 0 free, 1 running, 2 ready, 3 core queue, 4 event queue, 5 time queue, 6 in LINK, 7 in CHECK, 8 ending.
-// program: the number of its module. core: 0 not granted, 1 holds its run, from `start` on, 2 given back.
+// place, core: numbers of names.rt. program: the number of its module. start: where the run begins that it holds.
 // count and events are the condition of an event waiter, time that of a time waiter, request what a task in CHECK waits for.
 #[repr(C)]
 pub struct Task {
@@ -30,7 +35,7 @@ pub struct Task {
     pub start: u8,
 }
 
-// place: 0 free, 1 queued, 2 on the channel, 3 done. command: the call's code, 13 or 14.
+// place: a number of names.rt. command: the call's code, 13 or 14.
 #[repr(C)]
 pub struct Request {
     pub place: u8,
@@ -47,11 +52,11 @@ pub struct Tables {
     pub directory: Directory,
     pub on: u64,
     pub pools: [u64; 4],
-    pub tasks: [Task; 25],
+    pub tasks: [Task; TASK_SLOTS],
     pub clock: u32,
     pub freeTasks: u32,
     pub freeRequests: u32,
-    pub requests: [Request; 17],
+    pub requests: [Request; REQUEST_SLOTS],
     pub running: u8,
     pub channel: u8,
     pub threads: Threads,
@@ -81,13 +86,13 @@ fn unused(directory: Directory, freeTasks: u32, freeRequests: u32) -> Tables
         count: 0,
         program: 0,
         request: 0,
-        place: 0,
+        place: FREE,
         parent: 0,
         core: 0,
         start: 0,
     };
     let request = Request {
-        place: 0,
+        place: FREE,
         owner: 0,
         device: 0,
         command: 0,
@@ -98,11 +103,11 @@ fn unused(directory: Directory, freeTasks: u32, freeRequests: u32) -> Tables
         directory: directory,
         on: 0,
         pools: [0; 4],
-        tasks: [task; 25],
+        tasks: [task; TASK_SLOTS],
         clock: 0,
         freeTasks: freeTasks,
         freeRequests: freeRequests,
-        requests: [request; 17],
+        requests: [request; REQUEST_SLOTS],
         running: 0,
         channel: 0,
         threads: threads,

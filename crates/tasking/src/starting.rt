@@ -13,6 +13,7 @@ use calls::Call;
 use meaning::Given;
 use scheduler::ready;
 use tables::Tables;
+use tables::names::IN_LINK;
 use waiting::conditions;
 use waiting::wait;
 
@@ -71,7 +72,7 @@ pub fn link(t: Tables, c: Call) -> Given
 {
     let k = free::lowest(t.freeTasks);
     let child = free::create(t, k, c.number, t.running);
-    let linked = stop(child, 6);
+    let linked = stop(child, IN_LINK);
     let ready = ready::make_ready(linked, k);
     Given {
         tables: ready,

@@ -9,6 +9,7 @@ use ending::abort;
 use ending::finish;
 use scheduler::serve;
 use tables::Tables;
+use tables::names::TASK_BLOCKS;
 
 // The caller's run is free, if it holds one; it is not granted again.
 pub fn freemain(t: Tables) -> Tables
@@ -37,5 +38,5 @@ pub fn program_check(t: Tables) -> Tables
     let mut u = t;
     let k = u.running;
     u.running = 0;
-    abort::abort(u, k, 24)
+    abort::abort(u, k, TASK_BLOCKS)
 }

@@ -10,6 +10,7 @@ ghost use Rattle.lawful.specs.Tables.{LawfulTables};
 use crate::starting;
 use scheduler::dispatch;
 use tables::Tables;
+use tables::names::READY;
 use waiting::wake;
 
 // The task k, of no queue, at the front of the queue q.
@@ -32,7 +33,7 @@ pub fn dispatch_check(t: Tables) -> Tables
     let e = blocks::entry_of(t, k);
     let best = dispatch::best_ready(t);
     if (0 < best) & (best < e.level) {
-        let stopped = starting::stop(t, 2);
+        let stopped = starting::stop(t, READY);
         return lead(stopped, e.level, k);
     }
     t

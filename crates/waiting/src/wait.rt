@@ -12,13 +12,19 @@ use crate::conditions;
 use calls::Call;
 use tables::Tables;
 use tables::Task;
+use tables::names::EVENT_QUEUE;
+use tables::names::IN_EVENT;
+use tables::names::IN_TIME;
+use tables::names::TASK_SLOTS;
+use tables::names::TIME_QUEUE;
+use threads::CELLS;
 
 // A task block in the event queue.
 fn awaiting_events(task: Task, count: u8, events: u64) -> Task
     ensures { λ r. ⌜ r ≡ awaitingEvents task count events ⌝ }
 {
     let mut x = task;
-    x.place = 4;
+    x.place = IN_EVENT;
     x.count = count as u32;
     x.events = events;
     x.time = 0;
@@ -31,7 +37,7 @@ fn awaiting_time(task: Task, time: u32) -> Task
     ensures { λ r. ⌜ r ≡ awaitingTime task time ⌝ }
 {
     let mut x = task;
-    x.place = 5;
+    x.place = IN_TIME;
     x.count = 0;
     x.events = 0;
     x.time = time;
@@ -45,16 +51,16 @@ pub fn wait_for_events(t: Tables, k: u8, c: Call) -> Tables
     ensures { λ r. ⌜ Shows r (awaitsEvents (read t) k c) ⌝ }
 {
     let x = awaiting_events(t.tasks[k as usize], c.value, c.events);
-    blocks::join(t, 0, k, x)
+    blocks::join(t, EVENT_QUEUE, k, x)
 }
 
 // The times of the blocks, by their numbers in the queues.
-fn times(t: Tables) -> [u32; 41]
+fn times(t: Tables) -> [u32; CELLS]
     ensures { λ r. ⌜ ((y : ℕ) → y < 25 → getD r y 0 ≡ taskAt (read t) y .time) ⌝ }
 {
-    let mut keys: [u32; 41] = [0; 41];
+    let mut keys: [u32; CELLS] = [0; CELLS];
     let mut k: usize = 0;
-    while k < 25 {
+    while k < TASK_SLOTS {
         keys[k] = t.tasks[k].time;
         k += 1;
     }
@@ -67,7 +73,7 @@ fn enter_time(t: Tables, k: u8) -> Tables
     ensures { λ r. ⌜ Shows r (inTime (read t) k) ⌝ }
 {
     let mut r = t;
-    let h = threads::enter(r.threads, 7, k, times(t));
+    let h = threads::enter(r.threads, TIME_QUEUE, k, times(t));
     r.threads = h;
     r
 }

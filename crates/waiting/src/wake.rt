@@ -11,6 +11,8 @@ ghost use Rattle.waiting.specs.Wake.{Waiting, Watched, wokenIn};
 use crate::conditions;
 use scheduler::ready;
 use tables::Tables;
+use tables::names::EVENT_QUEUE;
+use tables::names::TIME_QUEUE;
 
 // The task k leaves the queue q, in which it waits, and is made ready.
 pub fn wake(t: Tables, q: u8, k: u8) -> Tables
@@ -27,7 +29,7 @@ fn wake_if_due(t: Tables, q: u8, k: u8) -> Tables
     ensures { λ r. ⌜ Shows r (wokenIn q k (read t)) ⌝ }
 {
     let x = t.tasks[k as usize];
-    if q == 0 {
+    if q == EVENT_QUEUE {
         if conditions::enough_on(t.on, x.count, x.events) {
             return wake(t, q, k);
         }
@@ -60,7 +62,7 @@ pub fn wake_events(t: Tables) -> Tables
     requires { ⌜ Sound (t .threads) × Shape (read t) [] 0 ⌝ }
     ensures { λ r. ⌜ Shows r (each woken (queue (read t) eventQueue) (read t)) ⌝ }
 {
-    wake_all(t, 0)
+    wake_all(t, EVENT_QUEUE)
 }
 
 // Every task on the time queue whose time is at most the clock is made ready, in queue order.
@@ -68,5 +70,5 @@ pub fn wake_time(t: Tables) -> Tables
     requires { ⌜ Sound (t .threads) × Shape (read t) [] 0 ⌝ }
     ensures { λ r. ⌜ Shows r (each timely (queue (read t) timeQueue) (read t)) ⌝ }
 {
-    wake_all(t, 7)
+    wake_all(t, TIME_QUEUE)
 }
