@@ -1,0 +1,32 @@
+-- Lists of tests, by name: where all of a list hold, each is given in turn to a function that names them; where each is shown, `also` puts them together.
+-- A test more is a name more, and nothing shifts.
+use mathlib.Core.Bool.{Bool, true, _&&_}
+use mathlib.Core.Path.{_≡_, refl}
+use mathlib.Core.List.{List, [], _∷_}
+use Rattle.words.specs.Words.{allTrue}
+use Rattle.words.proofs.Lists.{and-left, and-right}
+
+pub both : (a b : Bool) → (a && b) ≡ true → (a ≡ true) × (b ≡ true)
+both a b e = (and-left a b e, and-right a b e)
+
+-- a function to C of the tests of a list, each as one that holds
+unfoldable pub Given : List Bool → Type 0 → Type 0
+Given [] C = C
+Given (b ∷ l) C = b ≡ true → Given l C
+
+pub by-name : {C : Type 0} (l : List Bool) → allTrue l ≡ true → Given l C → C
+unfolding allTrue Given
+by-name [] e f = f
+by-name (b ∷ l) e f = let here = both b (allTrue l) e in by-name l (here .1) (f (here .0))
+
+pub record All (l : List Bool) : Type 0 where
+  pub all : allTrue l ≡ true
+
+infixr 5 _also_
+pub _also_ : {b : Bool} {l : List Bool} → b ≡ true → All l → All (b ∷ l)
+unfolding allTrue
+_also_ {b} {l} e f = record { all = rw (e, f .all) }
+
+pub no-more : All []
+unfolding allTrue
+no-more = record { all = refl }
