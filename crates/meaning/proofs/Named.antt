@@ -1,7 +1,7 @@
 -- Lists of tests, by name: where all of a list hold, each is given in turn to a function that names them; where each is shown, `also` puts them together.
 -- A test more is a name more, and nothing shifts.
-use mathlib.Core.Bool.{Bool, true, _&&_}
-use mathlib.Core.Path.{_≡_, refl}
+use mathlib.Core.Bool.{Bool, true, false, _&&_}
+use mathlib.Core.Path.{_≡_, refl, _∙_}
 use mathlib.Core.List.{List, [], _∷_}
 use Rattle.words.specs.Words.{allTrue}
 use Rattle.words.proofs.Lists.{and-left, and-right}
@@ -30,3 +30,31 @@ _also_ {b} {l} e f = record { all = rw (e, f .all) }
 pub no-more : All []
 unfolding allTrue
 no-more = record { all = refl }
+
+-- ---- Tests that code joins with `&`, one after the other from the left.
+
+unfoldable pub joined : Bool → List Bool → Bool
+joined a [] = a
+joined a (b ∷ l) = joined (a && b) l
+
+and-true : (a : Bool) → a ≡ (a && true)
+and-true true = refl
+and-true false = refl
+
+and-assoc : (a b c : Bool) → (a && b && c) ≡ (a && (b && c))
+and-assoc true b c = refl
+and-assoc false b c = refl
+
+pub joined-all : (a : Bool) (l : List Bool) → joined a l ≡ allTrue (a ∷ l)
+unfolding joined allTrue
+joined-all a [] = and-true a
+joined-all a (b ∷ l) = joined-all (a && b) l ∙ and-assoc a b (allTrue l)
+
+unfoldable pub chain : List Bool → Bool
+chain [] = true
+chain (a ∷ l) = joined a l
+
+pub chain-all : (l : List Bool) → chain l ≡ allTrue l
+unfolding chain allTrue
+chain-all [] = refl
+chain-all (a ∷ l) = joined-all a l
