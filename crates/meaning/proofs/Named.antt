@@ -37,6 +37,10 @@ unfoldable pub joined : Bool → List Bool → Bool
 joined a [] = a
 joined a (b ∷ l) = joined (a && b) l
 
+unfoldable pub chain : List Bool → Bool
+chain [] = true
+chain (a ∷ l) = joined a l
+
 and-true : (a : Bool) → a ≡ (a && true)
 and-true true = refl
 and-true false = refl
@@ -45,14 +49,10 @@ and-assoc : (a b c : Bool) → (a && b && c) ≡ (a && (b && c))
 and-assoc true b c = refl
 and-assoc false b c = refl
 
-pub joined-all : (a : Bool) (l : List Bool) → joined a l ≡ allTrue (a ∷ l)
+joined-all : (a : Bool) (l : List Bool) → joined a l ≡ allTrue (a ∷ l)
 unfolding joined allTrue
 joined-all a [] = and-true a
 joined-all a (b ∷ l) = joined-all (a && b) l ∙ and-assoc a b (allTrue l)
-
-unfoldable pub chain : List Bool → Bool
-chain [] = true
-chain (a ∷ l) = joined a l
 
 pub chain-all : (l : List Bool) → chain l ≡ allTrue l
 unfolding chain allTrue

@@ -148,6 +148,7 @@ module _ (modules units : ℕ) (t : Task) where
   pub task-in-range : TaskRange modules units t → taskInRange modules units t ≡ true
   task-in-range r = rw (r .place, r .parent, r .core, r .request, r .program, r .run)
 
+module _ (units : ℕ) (t : Task) where
   pub task-clear : clearTask units t ≡ true → TaskClear units t
   task-clear e =
       let request = both _ _ e in
