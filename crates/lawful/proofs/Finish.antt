@@ -12,7 +12,7 @@ use Rattle.threads.proofs.Lists.{tested}
 use Rattle.words.specs.Words.{if_then_else_, oneTo}
 use Rattle.tables.specs.declared.Task.{Task}
 use Rattle.tables.specs.State.{State, coreQueue, taskAt, requestAt, queue, unitsOf}
-use Rattle.tables.specs.Blocks.{Running, InLink, Ending, noTask}
+use Rattle.tables.specs.Blocks.{Running, InLink, Ending, noTask, moving}
 use Rattle.calls.specs.declared.Call.{Call}
 use Rattle.meaning.specs.Ready.{placed}
 use Rattle.meaning.specs.Finish.{freedTask, givenBack, pending, freedDone, parentReady, finished, ended}
@@ -26,8 +26,9 @@ use Rattle.lawful.proofs.Tests.{one-to}
 use Rattle.lawful.proofs.Sums.{field-kept, sum-le}
 use Rattle.lawful.proofs.Shape.{one-same, one-other, one-eq, one-le}
 use Rattle.lawful.proofs.Take.{take}
+use Rattle.lawful.proofs.Fields.{plain-fields}
 use Rattle.lawful.proofs.Enter.{hand-stands}
-use Rattle.lawful.proofs.Made.{made-ready, plain-fields, frame-parents}
+use Rattle.lawful.proofs.Made.{made-ready, frame-parents}
 use Rattle.lawful.proofs.Members.{not-in, queue-place, runs-place, runs-stands}
 use Rattle.lawful.proofs.Leave.{stop}
 use Rattle.lawful.proofs.Resting.{rest-made}
@@ -177,11 +178,11 @@ module _ {s : State} {k : ℕ} {h : List ℕ} {m : List ℕ} (i : InHand s k h 0
     where
       go : (b : Bool) → pending s k ≡ b → Finishes s (if b then placed s k Ending else finished s k) k h m
       go true e =
-          let f = plain-fields {p = Ending} (hand-stands i .fields) (omega arith) (omega arith) (λ z. omega (arith, z)) (λ z. omega (arith, z)) u in
+          let f = plain-fields (hand-stands i .fields) Ending (omega arith) (omega arith) (λ z. omega (arith, z)) (λ z. omega (arith, z)) refl u in
           record {
-            shape = park i Ending 0 0 (omega arith) f (λ z. absurd (omega (arith, z))) (λ z. pending-some s k e)
+            shape = park i (moving (taskAt s k) Ending) 0 (omega arith) refl f (λ z. absurd (omega (arith, z))) (λ z. pending-some s k e)
                 (omega (arith, one-other Ending InLink (λ z. omega (arith, z)))) (λ y a d. refl);
-            rest = park-rest i Ending 0 0 (omega arith) f t;
+            rest = park-rest i (moving (taskAt s k) Ending) t;
             parents = λ y d. ap (λ (t : Task). t .parent) (getD-set-other (s .tasks) k y _ noTask d);
             own = λ z. field-kept (λ t. t .parent) (s .tasks) k k _ noTask refl ∙ z;
             tasks = λ y d d′ z. getD-set-other (s .tasks) k y _ noTask d;

@@ -12,6 +12,7 @@ pub mod Pendings
 -- The law of one changed task block, its cases, and that of one request block.
 pub mod Members
 pub mod Change
+pub mod Fields
 pub mod Put
 pub mod Take
 pub mod Cored

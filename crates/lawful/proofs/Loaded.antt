@@ -17,7 +17,7 @@ use Rattle.tables.specs.Blocks.{Free, Running, InLink, Queued, OnChannel, noTas
 use Rattle.meaning.specs.Rules.{queueFor}
 use Rattle.lawful.specs.Shape.{sum, one, bit, placeOf, Passing, Stands, Carried, holding, Shape}
 use Rattle.lawful.specs.Resting.{Lawful}
-use Rattle.lawful.proofs.Freed.{free-fields}
+use Rattle.lawful.proofs.Fields.{free-fields}
 use Rattle.lawful.proofs.Shape.{one-same, one-other, rest-place}
 use Rattle.lawful.proofs.Cored.{holding-none}
 use Rattle.lawful.proofs.Tests.{all-to}

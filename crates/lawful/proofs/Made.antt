@@ -7,21 +7,20 @@ use Prim.Native.Nat.{ℕ, _+_, _≤_, _<_}
 use native.Mathlib.Omega.{arith}
 use lib.ListN.{set, getD}
 use lib.Seq.{getD-set-same, getD-set-other}
-use lib.Bits.{bitAnd}
 use lib.Dec.{ltb}
 use borrow.Author.Tests.{ltb-true, ltb-false}
 use Rattle.threads.specs.Threads.{hd, count}
 use Rattle.threads.proofs.Lists.{tested}
-use Rattle.words.specs.Words.{isEmpty, size}
-use Rattle.image.specs.declared.Directory.{Directory}
+use Rattle.words.specs.Words.{isEmpty}
+use Rattle.image.specs.Directory.{noEntry}
 use Rattle.tables.specs.declared.Task.{Task}
-use Rattle.tables.specs.State.{State, eventQueue, timeQueue, channelQueue, coreQueue, taskAt, poolAt, queue, levelOf, unitsOf, joining}
-use Rattle.tables.specs.Blocks.{Free, Running, Ready, InCore, InEvent, InTime, InLink, InCheck, Ending, noTask, task}
+use Rattle.tables.specs.State.{State, eventQueue, timeQueue, channelQueue, coreQueue, taskAt, poolAt, queue, levelOf, unitsOf, withPools, withTask, withQueue, joining}
+use Rattle.tables.specs.Blocks.{Free, Ready, InCore, noTask, moving}
 use Rattle.pools.specs.Pools.{startOf}
 use Rattle.meaning.specs.Ready.{placed, startFor, fits, needsCore, givenRun, readied, awaitsCore, madeReady}
 use Rattle.meaning.specs.Conditions.{enough}
 use Rattle.meaning.specs.Rules.{queueFor}
-use Rattle.lawful.specs.Shape.{Hand, placeOf, moduleOf, Fields, Shape, InHand}
+use Rattle.lawful.specs.Shape.{placeOf, Shape, InHand}
 use Rattle.lawful.specs.Resting.{Asleep, Stuck}
 use Rattle.lawful.proofs.Cases.{needs, needs-true}
 use Rattle.lawful.proofs.Sums.{field-kept}
@@ -29,6 +28,7 @@ use Rattle.lawful.proofs.Shape.{held-place}
 use Rattle.lawful.proofs.Queues.{set-queue, set-others, count-last}
 use Rattle.lawful.proofs.Members.{level-best, level-worst}
 use Rattle.lawful.proofs.Cored.{grant, core-units}
+use Rattle.lawful.proofs.Fields.{plain-fields, waiting-fields}
 use Rattle.lawful.proofs.Enter.{hand-stands, enter-other}
 
 -- ---- What getting ready does not touch: all but the block k, its level's queues and its level's pool.
@@ -50,61 +50,6 @@ pub record Made (s s′ : State) (k : ℕ) (h : List ℕ) (e : ℕ) : Type 0 whe
   pub shape : Shape s′ h e
   pub frame : Frame s s′ k
   pub stuck : (level : ℕ) → 1 ≤ level → level ≤ 3 → Stuck s level → Stuck s′ level
-
--- ---- The fields of a block that was in hand, put in a place: what the place asks is all that is left to show.
-pub record Asked (d : Directory) (t : Task) (p n v x w : ℕ) : Type 0 where
-  pub waits : p ≡ InCore → (1 ≤ moduleOf d t .units) × (t .core ≡ 0)
-  pub needs : 1 ≤ moduleOf d t .units → t .core ≡ 0 → (p ≢ Running) × (p ≢ Ready) × (p ≢ InLink) × (p ≢ InCheck) × (p ≢ Ending)
-  pub event : p ≢ InEvent → n + v ≡ 0
-  pub time : p ≢ InTime → x ≡ 0
-  pub request : p ≢ InCheck → w ≡ 0
-  pub passes : p ≡ InEvent → (bitAnd v (d .defined) ≡ v) × (1 ≤ n) × (n ≤ size v)
-
-pub put-fields : {d : Directory} {t : Task} {p n v x w : ℕ} → Fields d Hand t → 1 ≤ p → p ≤ 8 → Asked d t p n v x w
-    → Fields d p (task p t.program t.parent t.core t.start n v x w)
-put-fields f a b q =
-    record {
-      kind = omega (arith, b);
-      place = b;
-      free = λ z. absurd (omega (arith, z, a));
-      program = λ z. f .program (λ i. omega (arith, i));
-      parent = f .parent;
-      core = f .core;
-      inside = f .inside;
-      start = f .start;
-      unneeded = f .unneeded;
-      waits = q .waits;
-      needs = q .needs;
-      event = λ i j. q .event i;
-      time = λ i j. q .time i;
-      request = λ i j. q .request i;
-      passes = q .passes;
-    }
-
--- in a place of no fields of its own
-pub plain-fields : {d : Directory} {t : Task} {p : ℕ} → Fields d Hand t → 1 ≤ p → p ≤ 8 → p ≢ InCore → p ≢ InEvent
-    → (1 ≤ moduleOf d t .units → t .core ≡ 0 → ⊥) → Fields d p (task p t.program t.parent t.core t.start 0 0 0 0)
-plain-fields f a b c e n =
-    put-fields f a b (record {
-      waits = λ z. absurd (c z);
-      needs = λ i j. absurd (n i j);
-      event = λ i. refl;
-      time = λ i. refl;
-      request = λ i. refl;
-      passes = λ z. absurd (e z);
-    })
-
-pub waiting-fields : {d : Directory} {t : Task} → Fields d Hand t → 1 ≤ moduleOf d t .units → t .core ≡ 0
-    → Fields d InCore (task InCore t.program t.parent t.core t.start 0 0 0 0)
-waiting-fields f n c =
-    put-fields f (omega arith) (omega arith) (record {
-      waits = λ z. (n, c);
-      needs = λ i j. omega arith;
-      event = λ i. refl;
-      time = λ i. refl;
-      request = λ i. refl;
-      passes = λ z. absurd (omega (arith, z));
-    })
 
 -- ---- The rules of rest, where nothing that they read has changed.
 pub stuck-same : {s s′ : State} {level : ℕ} → queue s′ (coreQueue level) ≡ queue s (coreQueue level) → poolAt s′ level ≡ poolAt s level
@@ -154,19 +99,7 @@ module _ {s : State} {k : ℕ} {h : List ℕ} {e : ℕ} (i : InHand s k h e) whe
 
   -- what leaves k's block and one of its level's queues changed, no more
   framed : (q : ℕ) (m : List ℕ) (x : Task) (p : List ℕ) → 1 ≤ q → q ≤ 6 → x .parent ≡ taskAt s k .parent → x .program ≡ taskAt s k .program
-      → Frame s (record {
-        directory = s .directory;
-        clock = s .clock;
-        on = s .on;
-        running = s .running;
-        channel = s .channel;
-        freeTasks = s .freeTasks;
-        freeRequests = s .freeRequests;
-        pools = p;
-        tasks = set (s .tasks) k x;
-        requests = s .requests;
-        queues = set (s .queues) q m;
-      }) k
+      → Frame s (withQueue (withPools (withTask s k x) p) q m) k
   framed q m x p a b c d =
       let nine = i .shape .sizes .queues in
       let l : q < 9 = omega arith in
@@ -187,7 +120,7 @@ module _ {s : State} {k : ℕ} {h : List ℕ} {e : ℕ} (i : InHand s k h e) whe
 
   same-units : (q : ℕ) (m : List ℕ) (p : ℕ) (y : ℕ) → unitsOf (joining (placed s k p) q k) y ≡ unitsOf s y
   same-units q m p y =
-      ap (λ (j : ℕ). getD (s .directory .entries) j (record { level = 0; units = 0; flags = 0; point = 0 }) .units)
+      ap (λ (j : ℕ). getD (s .directory .entries) j noEntry .units)
       (field-kept (λ t. t .program) (s .tasks) k y _ noTask refl)
 
   pub ready : (1 ≤ unitsOf s k → taskAt s k .core ≡ 0 → ⊥) → Made s (readied s k) k h e
@@ -195,8 +128,8 @@ module _ {s : State} {k : ℕ} {h : List ℕ} {e : ℕ} (i : InHand s k h e) whe
   ready n =
       record {
         shape =
-            enter-other i Ready 0 0 0 0 (levelOf s k) (queue s (levelOf s k) ++ k ∷ []) (omega (arith, worst)) refl (λ y. count-last k y _)
-            (plain-fields (hand-stands i .fields) (omega arith) (omega arith) (λ z. omega (arith, z)) (λ z. omega (arith, z)) n)
+            enter-other i (moving (taskAt s k) Ready) (levelOf s k) (queue s (levelOf s k) ++ k ∷ []) (omega (arith, worst)) refl (λ y. count-last k y _) refl
+            (plain-fields (hand-stands i .fields) Ready (omega arith) (omega arith) (λ z. omega (arith, z)) (λ z. omega (arith, z)) refl n)
             (omega arith) (λ z. omega (arith, z, worst));
         frame = framed (levelOf s k) _ _ _ best (omega (arith, worst)) refl refl;
         stuck = λ level a b. stuck-same {s = s}
@@ -221,7 +154,7 @@ module _ {s : State} {k : ℕ} {h : List ℕ} {e : ℕ} (i : InHand s k h e) whe
       let nine = i .shape .sizes .queues in
       record {
         shape =
-            enter-other i InCore 0 0 0 0 q m (omega (arith, worst)) refl (λ y. count-last k y _)
+            enter-other i (moving (taskAt s k) InCore) q m (omega (arith, worst)) refl (λ y. count-last k y _) refl
             (waiting-fields (hand-stands i .fields) (c .0) (c .1)) (omega arith) (λ z. omega (arith, z, worst));
         frame = framed q m _ _ (omega (arith, best)) (omega (arith, worst)) refl refl;
         stuck = λ level a b g.

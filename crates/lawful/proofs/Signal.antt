@@ -12,7 +12,7 @@ use borrow.Author.Tests.{leb-false, lt-leb}
 use Rattle.threads.specs.Threads.{count, without}
 use Rattle.threads.proofs.Lists.{tested, count-nil}
 use Rattle.words.specs.Words.{if_then_else_, each, adding, dropping, size}
-use Rattle.tables.specs.State.{State, eventQueue, channelQueue, coreQueue, taskAt, queue, withOn, leaving, state}
+use Rattle.tables.specs.State.{State, eventQueue, channelQueue, coreQueue, taskAt, queue, withOn, leaving}
 use Rattle.calls.specs.declared.Call.{Call}
 use Rattle.meaning.specs.Conditions.{enough}
 use Rattle.meaning.specs.Ready.{madeReady}

@@ -16,7 +16,7 @@ use Rattle.image.specs.Answer.{refusalOf}
 use Rattle.image.specs.Load.{directoryOf, loadOf}
 use Rattle.image.proofs.Loads.{good, load-accepted, check-is-load}
 use Rattle.tables.specs.declared.Tables.{Tables}
-use Rattle.tables.specs.State.{State, read, tabled}
+use Rattle.tables.specs.State.{State, withQueues, read, tabled}
 use Rattle.calls.specs.Calls.{callOf}
 use Rattle.meaning.specs.Refusals.{refusals}
 use Rattle.meaning.specs.Rules.{directoryPasses, pointersSound, stateRules, rulesHold}
@@ -59,20 +59,7 @@ tables-rules t g = and-of _ _ (of-sound (t .threads) (g .pointers)) (lawful-rule
 -- ---- A lawful state as tables, and back.
 
 pub read-tabled : {s : State} → Lawful s → read (tabled s) ≡ s
-read-tabled {s} g =
-    ap (λ (l : List (List ℕ)). record {
-      directory = s .directory;
-      clock = s .clock;
-      on = s .on;
-      running = s .running;
-      channel = s .channel;
-      freeTasks = s .freeTasks;
-      freeRequests = s .freeRequests;
-      pools = s .pools;
-      tasks = s .tasks;
-      requests = s .requests;
-      queues = l;
-    }) (read-back (s .queues) (shape-apart (g .shape)))
+read-tabled {s} g = ap (withQueues s) (read-back (s .queues) (shape-apart (g .shape)))
 
 pub tabled-lawful : {s : State} → Lawful s → LawfulTables (tabled s)
 tabled-lawful {s} g =
