@@ -93,7 +93,7 @@ module _ {s : State} {a : ℕ} {l : List ℕ} (w : Walk eventQueue (a ∷ l) s (
           out = λ level lo hi. sym (ap (count a) (set (coreQueue level) (λ z. omega (arith, z)))) ∙ hand-count hand (coreQueue level) (omega arith);
           requested = set channelQueue (λ z. omega (arith, z));
         }) (w .rest)));
-        left = λ y. rw (d .frame .event, gone) (omega (arith, w .left y, count-cons a y l, count-without a y (queue s eventQueue) here));
+        left = λ y. rw (d .frame .queues eventQueue (λ z. omega (arith, z)), gone) (omega (arith, w .left y, count-cons a y l, count-without a y (queue s eventQueue) here));
       }
     where
       -- a waits no more, so that it need not be left out

@@ -17,8 +17,8 @@ use Rattle.meaning.specs.Conditions.{enough}
 use Rattle.meaning.specs.Ready.{madeReady, bestReady}
 use Rattle.meaning.specs.Services.{timely, timer, stopped, dispatchCheck}
 use Rattle.meaning.specs.Rules.{queueFor}
-use Rattle.lawful.specs.Shape.{Shape, InHand}
-use Rattle.lawful.specs.Resting.{Asleep, Rest, Lawful, Settled}
+use Rattle.lawful.specs.Shape.{InHand}
+use Rattle.lawful.specs.Resting.{Asleep, Lawful, Settled}
 use Rattle.lawful.proofs.Shape.{one-same}
 use Rattle.lawful.proofs.Queues.{count-cons, count-without, set-queue, set-others}
 use Rattle.lawful.proofs.Members.{level-best, level-worst, runs-place, runs-stands}
@@ -59,7 +59,7 @@ module _ {s : State} {a : ℕ} {l : List ℕ} (w : Walk timeQueue (a ∷ l) s []
           out = λ level lo hi. sym (ap (count a) (set (coreQueue level) (λ z. omega (arith, z)))) ∙ hand-count hand (coreQueue level) (omega arith);
           requested = set channelQueue (λ z. omega (arith, z));
         }) (w .rest));
-        left = λ y. rw (d .frame .time, gone) (omega (arith, w .left y, count-cons a y l, count-without a y (queue s timeQueue) here));
+        left = λ y. rw (d .frame .queues timeQueue (λ z. omega (arith, z)), gone) (omega (arith, w .left y, count-cons a y l, count-without a y (queue s timeQueue) here));
       }
 
   pub walk-tick : Walk timeQueue l (timely a s) []
