@@ -15,7 +15,7 @@ module _ {s : State} {h : List ℕ} {e : ℕ} (g : Shape s h e) where
       ⊎-elim (λ z. rw (z .1, g .blank .block) (omega arith))
       (λ z.
       let f = g .tasks k (omega (arith, z .1)) l .fields in
-      ⊎-elim (λ y. omega (arith, f .free (y .1))) (λ y. omega (arith, f .program (y .1), g .directory .modules)) (tested (placeOf s h k) Free))
+      ⊎-elim (λ y. rw (f .free (y .1)) (omega arith)) (λ y. omega (arith, f .program (y .1), g .directory .modules)) (tested (placeOf s h k) Free))
       (tested k 0)
 
   pub owner-low : (r : ℕ) → r ≤ 16 → requestAt s r .owner ≤ 24
@@ -23,5 +23,5 @@ module _ {s : State} {h : List ℕ} {e : ℕ} (g : Shape s h e) where
       ⊎-elim (λ z. rw (z .1, g .blank .request) (omega arith))
       (λ z.
       let w = g .requests r (omega (arith, z .1)) l in
-      ⊎-elim (λ y. omega (arith, w .free (y .1))) (λ y. omega (arith, w .used (omega (arith, y .1)) .1)) (tested (requestAt s r .place) 0))
+      ⊎-elim (λ y. rw (w .free (y .1)) (omega arith)) (λ y. omega (arith, w .used (omega (arith, y .1)) .1)) (tested (requestAt s r .place) 0))
       (tested r 0)

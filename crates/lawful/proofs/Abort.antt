@@ -97,7 +97,7 @@ module _ {s : State} {k : ℕ} (i : InHand s k [] 0) (r : Rest s []) (u : 1 ≤ 
         let q = parent-links (i .shape) k (i .low) z (i .some) in
         let f = i .shape .tasks p (grabbed .some) (grabbed .low) .fields in
         let d : unitsOf (ended (unlinked s k) k) p ≡ unitsOf s p =
-        ap₂ (λ (x : Directory) (t : Task). moduleOf x t .units) (done .directory ∙ unlinked-directory s k) next-same in
+        ap₂ (λ (x : Directory) (t : Task). moduleOf x t .units) (ap (λ (x : State). x .directory) (done .others) ∙ unlinked-directory s k) next-same in
         f .needs (omega (arith, a, d)) (sym (ap (λ (t : Task). t .core) next-same) ∙ b) .2 q
 
     parents : (y : ℕ) → (taskAt (ended (unlinked s k) k) y .parent ≡ taskAt s y .parent) ⊎ (taskAt (ended (unlinked s k) k) y .parent ≡ 0)

@@ -4,7 +4,7 @@ use mathlib.Core.Bool.{true}
 use mathlib.Core.Path.{_≡_, refl, sym, ap, _∙_}
 use mathlib.Core.Logic.{_≢_, ⊎-elim}
 use mathlib.Core.List.{List, []}
-use Prim.Native.Nat.{ℕ, _+_, _-_, _^_, _≤_, _<_}
+use Prim.Native.Nat.{ℕ, _-_, _^_, _≤_, _<_}
 use native.Mathlib.Omega.{arith}
 use lib.ListN.{length, set, getD, length-set}
 use lib.Seq.{getD-set-same, getD-set-other}
@@ -13,7 +13,7 @@ use Rattle.threads.proofs.Lists.{tested}
 use Rattle.words.specs.Words.{upBy}
 use Rattle.words.proofs.Changes.{adding-low}
 use Rattle.tables.specs.declared.Request.{Request}
-use Rattle.tables.specs.State.{State, channelQueue, timeQueue, node, state, taskAt, requestAt, queue, levelOf}
+use Rattle.tables.specs.State.{State, channelQueue, timeQueue, node, withChannel, withFreeRequests, withRequest, withQueues, taskAt, requestAt, queue, levelOf}
 use Rattle.tables.specs.Blocks.{Free, InCheck, Ending, Queued, OnChannel, Done, noRequest}
 use Rattle.meaning.specs.Channel.{channelLevel}
 use Rattle.meaning.specs.Finish.{freedRequest}
@@ -25,7 +25,7 @@ use Rattle.lawful.proofs.Free.{added-same, added-other}
 
 module _ (s : State) (r : ℕ) (x : Request) where
   abbrev pub asking : ℕ → ℕ → List (List ℕ) → State
-  asking c f l = state s.directory s.clock s.on s.running c s.freeTasks f s.pools s.tasks (set (s .requests) r x) l
+  asking c f l = withQueues (withFreeRequests (withChannel (withRequest s r x) c) f) l
 
   -- what is asked of the new block x, of the number c on the channel, of the spare blocks f and of the queues l
   pub record Asks (c f : ℕ) (l : List (List ℕ)) (h : List ℕ) : Type 0 where
@@ -36,7 +36,7 @@ module _ (s : State) (r : ℕ) (x : Request) where
     pub others : (y : ℕ) → y ≢ node r → count y (getD l channelQueue []) ≡ count y (queue s channelQueue)
     pub own : count (node r) (getD l channelQueue []) ≡ one (x .place) Queued
     pub kind : x .place ≤ 3
-    pub free : x .place ≡ 0 → x .owner + x .device + x .command + x .bytes ≡ 0
+    pub free : x .place ≡ 0 → x ≡ noRequest
     pub used : 1 ≤ x .place → (1 ≤ x .owner) × (x .owner ≤ 24) × (x .device ≤ 249) × (13 ≤ x .command) × (x .command ≤ 14) × (1 ≤ x .bytes)
     pub owned : 1 ≤ x .place → placeOf s h (x .owner) ≢ Free
     pub bound : c ≤ 16

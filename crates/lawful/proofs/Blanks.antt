@@ -1,21 +1,12 @@
 -- A block that is zero: the test of its fields, and the block itself. Field by field.
 use mathlib.Core.Bool.{true}
-use mathlib.Core.Path.{_≡_}
-use Prim.Native.Nat.{ℕ, _+_}
-use native.Mathlib.Omega.{arith}
-use borrow.Author.Tests.{eqb-true, eq-eqb}
+use mathlib.Core.Path.{_≡_, ap}
+use borrow.Author.Tests.{eqb-true}
 use Rattle.tables.specs.declared.Task.{Task}
 use Rattle.tables.specs.declared.Request.{Request}
 use Rattle.tables.specs.Blocks.{noTask, noRequest}
 use Rattle.meaning.specs.Rules.{blankTask, blankRequest}
-use Rattle.lawful.proofs.Truth.{both, and-of}
-
--- the sum of the fields, which is 0 where each is
-abbrev pub taskSum : Task → ℕ
-taskSum t = t .place + t .program + t .parent + t .core + t .start + t .count + t .events + t .time + t .request
-
-abbrev pub requestSum : Request → ℕ
-requestSum q = q .owner + q .device + q .command + q .bytes
+use Rattle.lawful.proofs.Truth.{both}
 
 pub task-blank : (t : Task) → blankTask t ≡ true → t ≡ noTask
 task-blank t e =
@@ -39,12 +30,8 @@ task-blank t e =
       request = eqb-true (t .request) 0 (h .1) i;
     }
 
-pub of-task-blank : (t : Task) → taskSum t ≡ 0 → blankTask t ≡ true
-of-task-blank t e =
-    and-of _ _ (and-of _ _ (and-of _ _ (and-of _ _ (and-of _ _ (and-of _ _ (and-of _ _ (and-of _ _
-    (eq-eqb (t .place) 0 (omega (arith, e))) (eq-eqb (t .program) 0 (omega (arith, e)))) (eq-eqb (t .parent) 0 (omega (arith, e)))) (eq-eqb (t .core) 0 (omega (arith, e))))
-    (eq-eqb (t .start) 0 (omega (arith, e)))) (eq-eqb (t .count) 0 (omega (arith, e)))) (eq-eqb (t .events) 0 (omega (arith, e)))) (eq-eqb (t .time) 0 (omega (arith, e))))
-    (eq-eqb (t .request) 0 (omega (arith, e)))
+pub of-task-blank : {t : Task} → t ≡ noTask → blankTask t ≡ true
+of-task-blank e = ap blankTask e
 
 pub request-blank : (q : Request) → blankRequest q ≡ true → q ≡ noRequest
 request-blank q e =
@@ -60,8 +47,5 @@ request-blank q e =
       bytes = eqb-true (q .bytes) 0 (d .1) i;
     }
 
-pub of-request-blank : (q : Request) → q .place + requestSum q ≡ 0 → blankRequest q ≡ true
-of-request-blank q e =
-    and-of _ _ (and-of _ _ (and-of _ _ (and-of _ _
-    (eq-eqb (q .place) 0 (omega (arith, e))) (eq-eqb (q .owner) 0 (omega (arith, e)))) (eq-eqb (q .device) 0 (omega (arith, e)))) (eq-eqb (q .command) 0 (omega (arith, e))))
-    (eq-eqb (q .bytes) 0 (omega (arith, e)))
+pub of-request-blank : {q : Request} → q ≡ noRequest → blankRequest q ≡ true
+of-request-blank e = ap blankRequest e

@@ -14,7 +14,7 @@ use Rattle.words.specs.Words.{_among_, upBy}
 use Rattle.image.specs.declared.Directory.{Directory}
 use Rattle.tables.specs.declared.Task.{Task}
 use Rattle.tables.specs.Blocks.{Free, InLink, noTask}
-use Rattle.tables.specs.State.{State, timeQueue, channelQueue, node, requestOf, state, taskAt, requestAt, queue, levelOf}
+use Rattle.tables.specs.State.{State, timeQueue, channelQueue, node, requestOf, withRunning, withFreeTasks, withPools, withTasks, withQueues, taskAt, requestAt, queue, levelOf}
 use Rattle.meaning.specs.Channel.{channelLevel}
 use Rattle.meaning.specs.Rules.{queueFor}
 use Rattle.lawful.specs.Shape.{one, bit, Hand, placeOf, moduleOf, Stands, Core, children, holding, Ranked, Shape}
@@ -47,7 +47,7 @@ stands-same {s} {s′} {p} {p′} {y} c e w =
 -- ---- The law. The task blocks ts are those of s but for the block k; r runs, i are idle, p are the pools, l the queues.
 module _ (s : State) (k : ℕ) (ts : List Task) (r i : ℕ) (p : List ℕ) (l : List (List ℕ)) where
   abbrev pub changed : State
-  changed = state s.directory s.clock s.on r s.channel i s.freeRequests p ts s.requests l
+  changed = withQueues (withPools (withFreeTasks (withRunning (withTasks s ts) r) i) p) l
 
   pub record Changes (h h′ : List ℕ) (e′ : ℕ) : Type 0 where
     pub some : 1 ≤ k

@@ -13,19 +13,19 @@ use Rattle.threads.proofs.Lists.{tested}
 use Rattle.words.specs.Words.{if_then_else_, isEmpty, upBy, insertedBy, dropping, least}
 use Rattle.words.proofs.Changes.{dropping-low}
 use Rattle.tables.specs.declared.Request.{Request}
-use Rattle.tables.specs.State.{State, eventQueue, channelQueue, coreQueue, node, requestOf, taskAt, requestAt, queue, levelOf, unitsOf}
-use Rattle.tables.specs.Blocks.{InLink, InCheck, Queued, OnChannel, Done, request, noRequest, task}
+use Rattle.tables.specs.State.{State, eventQueue, channelQueue, coreQueue, node, requestOf, taskAt, requestAt, queue, levelOf}
+use Rattle.tables.specs.Blocks.{InLink, InCheck, Queued, OnChannel, Done, request, noRequest, awaitingRequest}
 use Rattle.calls.specs.declared.Call.{Call}
 use Rattle.meaning.specs.Conditions.{enough}
 use Rattle.meaning.specs.Finish.{freedRequest}
 use Rattle.meaning.specs.Channel.{queued, channelFilled, channelLevel}
 use Rattle.meaning.specs.Services.{asked, readOrWrite, awaitsRequest, check}
-use Rattle.lawful.specs.Shape.{Fields, Pending, Carried, Shape, InHand}
+use Rattle.lawful.specs.Shape.{Pending, Carried, Shape}
 use Rattle.lawful.specs.Resting.{Asleep, Stuck, Rest, Lawful, Settled}
 use Rattle.lawful.proofs.Tests.{emptied, filled}
 use Rattle.lawful.proofs.Shape.{one-same, one-other, one-eq}
 use Rattle.lawful.proofs.Queues.{count-cons, count-without, count-placed, set-nine, set-queue, set-others, up-same, up-placed, up-without}
-use Rattle.lawful.proofs.Made.{put-fields}
+use Rattle.lawful.proofs.Fields.{check-fields}
 use Rattle.lawful.proofs.Enter.{hand-stands}
 use Rattle.lawful.proofs.Members.{channel-high, channel-low, channel-queued, runs-place, runs-stands}
 use Rattle.lawful.proofs.Leave.{stop}
@@ -236,18 +236,6 @@ unfolding readOrWrite asked queued channelLevel key
 transfer-keeps c g n some lo k b = transfer-settled g n some (c .number) (c .code) (c .amount) lo k b
 
 -- ---- CHECK.
-check-fields : {s : State} {k : ℕ} {h : List ℕ} {e : ℕ} (i : InHand s k h e) (w : ℕ) → (1 ≤ unitsOf s k → taskAt s k .core ≡ 0 → ⊥)
-    → Fields (s .directory) InCheck (let t = taskAt s k in task InCheck t.program t.parent t.core t.start 0 0 0 w)
-check-fields i w n =
-    put-fields (hand-stands i .fields) (omega arith) (omega arith) (record {
-      waits = λ z. absurd (omega (arith, z));
-      needs = λ i j. absurd (n i j);
-      event = λ i. refl;
-      time = λ i. refl;
-      request = λ i. absurd (i refl);
-      passes = λ z. absurd (omega (arith, z));
-    })
-
 module _ {s : State} (g : Lawful s) (n : s .running ≢ 0) (r : ℕ) (some : 1 ≤ r) (low : r ≤ 16) (used : requestAt s r .place ≢ 0) (own : requestAt s r .owner ≡ s .running) where
   pub check-settled : Settled (if eqb (requestAt s r .place) Done then freedRequest s r else awaitsRequest s r)
   unfolding awaitsRequest
@@ -257,13 +245,13 @@ module _ {s : State} (g : Lawful s) (n : s .running ≢ 0) (r : ℕ) (some : 1 �
       (λ z. rw (z .0) (
       let i = stop (g .shape) n in
       let w = runs-stands (g .shape) n in
-      let f = check-fields i r (λ a b. w .fields .needs a b .0 (runs-place (g .shape) n)) in
+      let f = check-fields (hand-stands i .fields) r (λ a b. w .fields .needs a b .0 (runs-place (g .shape) n)) in
       let k = g .shape .requests r some low .kind in
       settled
-      (park i InCheck r 0 (omega arith) f
+      (park i (awaitingRequest (taskAt s (s .running)) r) 0 (omega arith) refl f
       (λ y. record { some = some; low = low; own = own; first = omega (arith, used); last = omega (arith, z .1, k) })
       (λ y. absurd (omega (arith, y))) (omega (arith, one-other InCheck InLink (λ y. omega (arith, y)))) (λ y a d. refl))
-      (park-rest i InCheck r 0 (omega arith) f (rest-stopped s 0 (g .rest)))))
+      (park-rest i (awaitingRequest (taskAt s (s .running)) r) (rest-stopped s 0 (g .rest)))))
       (tested (requestAt s r .place) Done)
 
 pub check-keeps : {s : State} (c : Call) → Lawful s → s .running ≢ 0 → 1 ≤ c .number → c .number ≤ 16 → requestAt s (c .number) .place ≢ 0 → requestAt s (c .number) .owner ≡ s .running

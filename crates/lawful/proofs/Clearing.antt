@@ -10,7 +10,7 @@ use Rattle.threads.specs.Threads.{count}
 use Rattle.threads.proofs.Lists.{tested, count-nil}
 use Rattle.words.specs.Words.{oneTo, each}
 use Rattle.tables.specs.declared.Request.{Request}
-use Rattle.tables.specs.State.{State, requestAt}
+use Rattle.tables.specs.State.{State, withFreeRequests, withRequests, requestAt}
 use Rattle.tables.specs.Blocks.{Done, noRequest}
 use Rattle.meaning.specs.Conditions.{enough}
 use Rattle.meaning.specs.Finish.{freedRequest, freedIfDone, freedDone}
@@ -21,13 +21,15 @@ use Rattle.lawful.proofs.Shape.{one-same, one-other}
 use Rattle.lawful.proofs.Queues.{count-cons}
 use Rattle.lawful.proofs.Ask.{free-request}
 
+-- a state but for its requests
+abbrev pub unasked : State → State
+unasked s = withRequests (withFreeRequests s 0) []
+
 pub record Clears (s s′ : State) (k : ℕ) (h : List ℕ) (e : ℕ) (m : List ℕ) : Type 0 where
   pub shape : Shape s′ h e
   pub rest : Rest s′ m
   pub quiet : (i : ℕ) → Pending (s′ .requests) k i → ⊥
-  pub tasks : s′ .tasks ≡ s .tasks
-  pub running : s′ .running ≡ s .running
-  pub directory : s′ .directory ≡ s .directory
+  pub others : unasked s′ ≡ unasked s
   pub stays : (i : ℕ) → (requestAt s i .owner ≡ k → requestAt s i .place ≢ Done) → requestAt s′ i .owner ≡ k → requestAt s′ i .place ≢ Done
 
 pub rest-freed : {s : State} {m : List ℕ} (r : ℕ) → Rest s m → Rest (freedRequest s r) m
@@ -39,17 +41,9 @@ rest-freed r a =
       flowing = record { flowing = a .flowing .flowing };
     }
 
-freed-tasks : (s : State) (r : ℕ) → freedRequest s r .tasks ≡ s .tasks
+freed-unasked : (s : State) (r : ℕ) → unasked (freedRequest s r) ≡ unasked s
 unfolding freedRequest
-freed-tasks s r = refl
-
-freed-directory : (s : State) (r : ℕ) → freedRequest s r .directory ≡ s .directory
-unfolding freedRequest
-freed-directory s r = refl
-
-freed-running : (s : State) (r : ℕ) → freedRequest s r .running ≡ s .running
-unfolding freedRequest
-freed-running s r = refl
+freed-unasked s r = refl
 
 -- what the step leaves of the block r
 pub record Cleared (s s′ : State) (k r : ℕ) (h : List ℕ) (e : ℕ) (m : List ℕ) : Type 0 where
@@ -78,9 +72,7 @@ module _ {s : State} {k : ℕ} {h : List ℕ} {e : ℕ} {m : List ℕ} (some : 1
           quiet = λ i p.
               ⊎-elim (λ z. not-own (ap (λ (j : ℕ). requestAt (freedRequest s r) j .owner) (sym (z .1)) ∙ p .own))
               (λ z. let o = elsewhere i (z .1) in n i (record { some = p .some; low = p .low; own = rw o at (p .own); first = rw o at (p .first); last = rw o at (p .last) })) (tested i r);
-          tasks = freed-tasks s r;
-          directory = freed-directory s r;
-          running = freed-running s r;
+          others = freed-unasked s r;
           stays = λ i f z.
               ⊎-elim (λ y. absurd (not-own (ap (λ (j : ℕ). requestAt (freedRequest s r) j .owner) (sym (y .1)) ∙ z)))
               (λ y. let o = elsewhere i (y .1) in rw o (f (rw o at z))) (tested i r);
@@ -89,7 +81,7 @@ module _ {s : State} {k : ℕ} {h : List ℕ} {e : ℕ} {m : List ℕ} (some : 1
       }
 
   clear-keep : (requestAt s r .owner ≡ k → requestAt s r .place ≢ Done) → Cleared s s k r h e m
-  clear-keep d = record { clears = record { shape = g; rest = t; quiet = n; tasks = refl; running = refl; directory = refl; stays = λ i f. f }; own = d }
+  clear-keep d = record { clears = record { shape = g; rest = t; quiet = n; others = refl; stays = λ i f. f }; own = d }
 
   pub clear-one : Cleared s (freedIfDone k r s) k r h e m
   unfolding freedIfDone
@@ -108,7 +100,7 @@ module _ {k : ℕ} {h : List ℕ} {e : ℕ} {m : List ℕ} (some : 1 ≤ k) wher
       → ClearsAll s (each (freedIfDone k) l s) k l h e m
   unfolding each
   clear-all [] s f g t n =
-      record { clears = record { shape = g; rest = t; quiet = n; tasks = refl; running = refl; directory = refl; stays = λ i f. f }; all = λ i c. absurd (omega (arith, c, count-nil i)) }
+      record { clears = record { shape = g; rest = t; quiet = n; others = refl; stays = λ i f. f }; all = λ i c. absurd (omega (arith, c, count-nil i)) }
   clear-all (r ∷ l) s f g t n =
       let b = f r (omega (arith, count-cons r r l, one-same r r refl)) in
       let c = clear-one some g t n r (b .0) (b .1) in
@@ -120,9 +112,7 @@ module _ {k : ℕ} {h : List ℕ} {e : ℕ} {m : List ℕ} (some : 1 ≤ k) wher
           shape = v .shape;
           rest = v .rest;
           quiet = v .quiet;
-          tasks = v .tasks ∙ d .tasks;
-          running = v .running ∙ d .running;
-          directory = v .directory ∙ d .directory;
+          others = v .others ∙ d .others;
           stays = λ i z. v .stays i (d .stays i z);
         };
         all = λ i z.

@@ -10,14 +10,13 @@ use lib.ListN.{length, set, getD, length-set}
 use lib.Seq.{getD-set-same, getD-set-other}
 use lib.Bits.{bitAnd}
 use borrow.Author.Tests.{eq-eqb, ne-eqb}
-use Rattle.threads.specs.Threads.{count}
 use Rattle.threads.proofs.Lists.{tested}
 use Rattle.words.specs.Words.{_among_}
 use Rattle.image.specs.declared.Directory.{Directory}
 use Rattle.image.specs.Directory.{noEntry}
 use Rattle.tables.specs.declared.Task.{Task}
-use Rattle.tables.specs.State.{State, timeQueue, state, taskAt, poolAt, queue, levelOf, unitsOf}
-use Rattle.tables.specs.Blocks.{Free, task, noTask}
+use Rattle.tables.specs.State.{State, timeQueue, withPool, withTask, taskAt, poolAt, queue, levelOf, unitsOf}
+use Rattle.tables.specs.Blocks.{Free, noTask, withCore}
 use Rattle.pools.specs.Pools.{run, startOf}
 use Rattle.pools.specs.Runs.{FreeRun}
 use Rattle.pools.proofs.Units.{free-inside}
@@ -27,6 +26,7 @@ use Rattle.meaning.specs.Ready.{startFor, givenRun}
 use Rattle.meaning.specs.Rules.{queueFor}
 use Rattle.lawful.specs.Shape.{one, bit, Hand, placeOf, moduleOf, Fields, Stands, holding, Core, Shape}
 use Rattle.lawful.proofs.Change.{change, ranked-kept}
+use Rattle.lawful.proofs.Fields.{cored-fields}
 use Rattle.lawful.proofs.Queues.{up-same}
 use Rattle.lawful.proofs.Sums.{field-kept, sum-set, sum-kept, sum-le}
 use Rattle.lawful.proofs.Bits.{bit-add, bit-sub}
@@ -49,11 +49,10 @@ module _ (d : Directory) (level u : ℕ) (t : Task) where
 -- ---- The law: core and start of one block change, and one pool, so that the units are still those of the runs.
 module _ (s : State) (k c a level x : ℕ) where
   abbrev pub recored : Task
-  recored = let t = taskAt s k in task t.place t.program t.parent c a t.count t.events t.time t.request
+  recored = withCore (taskAt s k) c a
 
   abbrev pub coring : State
-  coring =
-      state s.directory s.clock s.on s.running s.channel s.freeTasks s.freeRequests (set (s .pools) level x) (set (s .tasks) k recored) s.requests s.queues
+  coring = withPool (withTask s k recored) level x
 
   kept : (f : Task → ℕ) → f recored ≡ f (taskAt s k) → (y : ℕ) → f (taskAt coring y) ≡ f (taskAt s y)
   kept f e y = field-kept f (s .tasks) k y recored noTask e
@@ -155,23 +154,7 @@ module _ {s : State} {h : List ℕ} {e k : ℕ} (g : Shape s h e) (some : 1 ≤ 
     grant =
         let w = g .tasks k some low .fields in
         recore s k 1 (startFor s k) (levelOf s k) _ g some low (level-best g some low used)
-        (rw hand (let v = rw hand at w in record {
-          kind = v .kind;
-          place = v .place;
-          free = λ b. absurd (omega (arith, b));
-          program = v .program;
-          parent = v .parent;
-          core = omega arith;
-          inside = λ b. is-free .inside;
-          start = λ b. absurd (b refl);
-          unneeded = λ b. absurd (omega (arith, b, n));
-          waits = λ b. absurd (omega (arith, b));
-          needs = λ b c. absurd (omega (arith, c));
-          event = v .event;
-          time = v .time;
-          request = v .request;
-          passes = λ b. absurd (omega (arith, b));
-        }))
+        (cored-fields w used (λ b. omega (arith, b, hand)) n (omega arith) (λ b. is-free .inside) (λ b. absurd (b refl)))
         (repool (s .directory) (s .tasks) (s .pools) k _ _ (g .core) (omega (arith, g .sizes .tasks)) (g .sizes .pools) (levelOf s k)
         (level-worst g some low used) fits-in
         (λ i u b. holding-other (s .directory) i u _ (λ c. b (sym c)) ∙ sym (holding-none (s .directory) i u _ (λ c. omega (arith, c, z))))
@@ -188,7 +171,10 @@ module _ {s : State} {h : List ℕ} {e k : ℕ} (g : Shape s h e) (some : 1 ≤ 
   given-back = coring s k 2 0 (levelOf s k) (poolAt s (levelOf s k) - run (taskAt s k .start) (unitsOf s k))
 
   pub used-holder : placeOf s h k ≢ Free
-  used-holder z = omega (arith, g .tasks k some low .fields .free z, o)
+  used-holder z = omega (arith, ap (λ (t : Task). t .core) (g .tasks k some low .fields .free z), o)
+
+  needed : {n : ℕ} → n ≢ 0 → 1 ≤ n
+  needed n = omega (arith, n)
 
   run-granted : (u : ℕ) → bit (run (taskAt s k .start) (unitsOf s k)) u ≤ bit (poolAt s (levelOf s k)) u
   run-granted u =
@@ -203,23 +189,7 @@ module _ {s : State} {h : List ℕ} {e k : ℕ} (g : Shape s h e) (some : 1 ≤ 
   give-back =
       let v = g .tasks k some low .fields in
       recore s k 2 0 (levelOf s k) _ g some low (level-best g some low used-holder)
-      (record {
-        kind = v .kind;
-        place = v .place;
-        free = λ b. absurd (used-holder b);
-        program = v .program;
-        parent = v .parent;
-        core = omega arith;
-        inside = λ b. absurd (omega (arith, b));
-        start = λ b. refl;
-        unneeded = λ b. absurd (omega (arith, v .unneeded b, o));
-        waits = λ b. absurd (omega (arith, v .waits b, o));
-        needs = λ b c. absurd (omega (arith, c));
-        event = v .event;
-        time = v .time;
-        request = v .request;
-        passes = v .passes;
-      })
+      (cored-fields v used-holder (λ b. omega (arith, v .waits b, o)) (needed (λ b. omega (arith, v .unneeded b, o))) (omega arith) (λ b. absurd (omega (arith, b))) (λ b. refl))
       (repool (s .directory) (s .tasks) (s .pools) k _ _ (g .core) (omega (arith, g .sizes .tasks)) (g .sizes .pools) (levelOf s k)
       (level-worst g some low used-holder) (omega (arith, g .core .low (levelOf s k)))
       (λ i u b. holding-none (s .directory) i u _ (λ c. omega (arith, c)) ∙ sym (holding-other (s .directory) i u _ (λ c. b (sym c))))

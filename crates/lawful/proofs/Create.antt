@@ -15,39 +15,27 @@ use Rattle.threads.proofs.Lists.{tested}
 use Rattle.words.specs.Words.{_among_, dropping}
 use Rattle.words.proofs.Changes.{dropping-low}
 use Rattle.tables.specs.declared.Task.{Task}
-use Rattle.tables.specs.State.{State, timeQueue, taskAt, queue, levelOf}
-use Rattle.tables.specs.Blocks.{Free, Running, InLink, task, noTask}
+use Rattle.tables.specs.State.{State, timeQueue, withFreeTasks, withTask, taskAt, queue, levelOf}
+use Rattle.tables.specs.Blocks.{Free, Running, InLink, noTask, newTask}
 use Rattle.meaning.specs.Services.{created}
 use Rattle.meaning.specs.Rules.{queueFor}
 use Rattle.lawful.specs.Shape.{one, bit, Hand, placeOf, Stands, children, Shape, InHand}
 use Rattle.lawful.proofs.Change.{change, past-hand, core-kept}
+use Rattle.lawful.proofs.Fields.{new-fields}
 use Rattle.lawful.proofs.Sums.{sum-set, sum-le}
 use Rattle.lawful.proofs.Shape.{one-sym, one-same, one-other, one-eq, held-place, other-place}
 use Rattle.lawful.proofs.Queues.{up-same}
 use Rattle.lawful.proofs.Cored.{holding-none}
 use Rattle.lawful.proofs.Members.{not-in}
 use Rattle.lawful.proofs.Free.{dropped-same, dropped-other}
-use Rattle.lawful.proofs.Freed.{new-fields}
 
 module _ {s : State} {h : List ℕ} (g : Shape s h 0) (k m p : ℕ) (some : 1 ≤ k) (low : k ≤ 24) (freeTasks : bit (s .freeTasks) k ≡ 1)
     (known : m < s .directory .modules) (parent : p ≤ 24) (apart : p ≢ k) where
   abbrev fresh : Task
-  fresh = task 0 m p 0 0 0 0 0 0
+  fresh = newTask m p
 
   abbrev made : State
-  made = record {
-    directory = s .directory;
-    clock = s .clock;
-    on = s .on;
-    running = s .running;
-    channel = s .channel;
-    freeTasks = dropping (s .freeTasks) k;
-    freeRequests = s .freeRequests;
-    pools = s .pools;
-    tasks = set (s .tasks) k fresh;
-    requests = s .requests;
-    queues = s .queues;
-  }
+  made = withTask (withFreeTasks s (dropping (s .freeTasks) k)) k fresh
 
   was : Stands s (placeOf s h k) k
   was = g .tasks k some low
@@ -55,8 +43,8 @@ module _ {s : State} {h : List ℕ} (g : Shape s h 0) (k m p : ℕ) (some : 1 �
   was-free : placeOf s h k ≡ Free
   was-free = one-eq _ Free (sym (was .freeTasks) ∙ freeTasks)
 
-  zeros : taskAt s k .place + taskAt s k .program + taskAt s k .parent + taskAt s k .core + taskAt s k .start + taskAt s k .count + taskAt s k .events + taskAt s k .time + taskAt s k .request ≡ 0
-  zeros = was .fields .free was-free
+  zero : taskAt s k ≡ noTask
+  zero = was .fields .free was-free
 
   no-queue : (q : ℕ) → q < 9 → count k (queue s q) ≡ 0
   unfolding queueFor
@@ -113,7 +101,7 @@ module _ {s : State} {h : List ℕ} (g : Shape s h 0) (k m p : ℕ) (some : 1 �
   links : (y : ℕ) → 1 ≤ y → y ≤ 24 → children (set (s .tasks) k fresh) y ≡ one (placeOf made (k ∷ h) y) InLink + one y p
   links y a b =
       let c = sum-set (λ t. one (t .parent) y) (s .tasks) k fresh noTask (omega (arith, g .sizes .tasks)) in
-      let d = one-other (taskAt s k .parent) y (λ z. omega (arith, z, zeros, a)) in
+      let d = one-other (taskAt s k .parent) y (λ z. omega (arith, z, ap (λ (t : Task). t .parent) zero, a)) in
       let e = one-other y 0 (λ z. omega (arith, z, a)) in
       let f = one-sym p y in
       ⊎-elim
@@ -141,7 +129,7 @@ module _ {s : State} {h : List ℕ} (g : Shape s h 0) (k m p : ℕ) (some : 1 �
         pool = g .blank .pool;
         core =
             core-kept k fresh (g .core) (λ level u.
-            holding-none (s .directory) level u fresh (λ z. omega (arith, z)) ∙ sym (holding-none (s .directory) level u (taskAt s k) (λ z. omega (arith, z, zeros))));
+            holding-none (s .directory) level u fresh (λ z. omega (arith, z)) ∙ sym (holding-none (s .directory) level u (taskAt s k) (λ z. omega (arith, z, ap (λ (t : Task). t .core) zero))));
         links = links;
         ranked = record { rank = rank; above = above };
         timed =

@@ -11,9 +11,8 @@ use Rattle.threads.specs.Threads.{hd, count, without}
 use Rattle.threads.proofs.Lists.{tested}
 use Rattle.words.specs.Words.{isEmpty}
 use Rattle.image.specs.Directory.{noEntry}
-use Rattle.tables.specs.declared.Task.{Task}
-use Rattle.tables.specs.State.{State, eventQueue, timeQueue, channelQueue, coreQueue, taskAt, queue, unitsOf, withRunning}
-use Rattle.tables.specs.Blocks.{Running, InLink, noTask}
+use Rattle.tables.specs.State.{State, eventQueue, channelQueue, coreQueue, taskAt, queue, unitsOf, withRunning}
+use Rattle.tables.specs.Blocks.{Running, InLink, noTask, moving}
 use Rattle.meaning.specs.Ready.{placed, bestReady, runsFirst, dispatched}
 use Rattle.meaning.specs.Rules.{queueFor}
 use Rattle.lawful.specs.Shape.{Shape, InHand}
@@ -22,29 +21,26 @@ use Rattle.lawful.proofs.Tests.{emptied, filled}
 use Rattle.lawful.proofs.Cases.{best-1, best-2, best-3, best-some, kept, none-ready, dispatches}
 use Rattle.lawful.proofs.Sums.{field-kept}
 use Rattle.lawful.proofs.Shape.{one-same, one-other}
-use Rattle.lawful.proofs.Put.{putting, put}
-use Rattle.lawful.proofs.Queues.{set-others, up-same, count-cons}
-use Rattle.lawful.proofs.Enter.{hand-stands, hand-count}
-use Rattle.lawful.proofs.Made.{plain-fields, stuck-same, asleep-same}
+use Rattle.lawful.proofs.Fields.{plain-fields}
+use Rattle.lawful.proofs.Put.{put}
+use Rattle.lawful.proofs.Queues.{set-others, count-cons}
+use Rattle.lawful.proofs.Enter.{hand-stands, hand-count, hand-timed}
+use Rattle.lawful.proofs.Made.{stuck-same, asleep-same}
 use Rattle.lawful.proofs.Members.{member-stands, member-ready}
 use Rattle.lawful.proofs.Leave.{leave}
 
--- ---- A block in hand is put into a place that has no queue: running, LINK, ending, CHECK.
+-- ---- A block in hand is put on the processor.
 module _ {s : State} {k : ℕ} {h : List ℕ} {e : ℕ} (i : InHand s k h e) where
-  hand-time : (p n v t w r y : ℕ) → 1 ≤ count y (queue s timeQueue) → taskAt (putting s k p n v t w (s .queues) r) y .time ≡ taskAt s y .time
-  hand-time p n v t w r y c =
-      ap (λ (x : Task). x .time)
-      (getD-set-other (s .tasks) k y _ noTask (λ z. omega (arith, c, hand-count i timeQueue (omega arith), ap (λ (x : ℕ). count x (queue s timeQueue)) z)))
-
   pub run-it : s .running ≡ 0 → (1 ≤ unitsOf s k → taskAt s k .core ≡ 0 → ⊥) → Shape (withRunning (placed s k Running) k) h e
   unfolding queueFor
   run-it z n =
-      put s k Running 0 0 0 0 (i .shape) (record {
+      put s k (moving (taskAt s k) Running) (i .shape) (record {
         some = i .some;
         low = i .low;
         out = i .out;
+        same = refl;
         used = omega arith;
-        fields = plain-fields (hand-stands i .fields) (omega arith) (omega arith) (λ z. omega (arith, z)) (λ z. omega (arith, z)) n;
+        fields = plain-fields (hand-stands i .fields) Running (omega arith) (omega arith) (λ z. omega (arith, z)) (λ z. omega (arith, z)) refl n;
         nine = i .shape .sizes .queues;
         others = λ q y d. refl;
         own = λ q l. hand-count i q l ∙ sym (one-other 9 q (λ z. omega (arith, z, l)));
@@ -55,7 +51,7 @@ module _ {s : State} {k : ℕ} {h : List ℕ} {e : ℕ} (i : InHand s k h e) whe
         ends = λ z. absurd (omega (arith, z));
         links = omega (arith, one-other Running InLink (λ z. omega (arith, z)));
         link-others = λ y a d. refl;
-        timed = up-same _ (λ a. taskAt s a .time) (queue s timeQueue) (hand-time Running 0 0 0 0 k) ∙ i .shape .timed;
+        timed = hand-timed i (moving (taskAt s k) Running);
         channel = refl;
       })
 

@@ -11,12 +11,13 @@ use Rattle.threads.specs.Threads.{count}
 use Rattle.threads.proofs.Lists.{tested}
 use Rattle.words.specs.Words.{upBy}
 use Rattle.tables.specs.declared.Task.{Task}
-use Rattle.tables.specs.State.{State, timeQueue, channelQueue, taskAt, queue, levelOf}
+use Rattle.tables.specs.State.{State, timeQueue, channelQueue, withTask, taskAt, queue, levelOf}
 use Rattle.tables.specs.Blocks.{Running, InLink, noTask}
 use Rattle.meaning.specs.Rules.{queueFor}
 use Rattle.lawful.specs.Shape.{one, Hand, Fields, Stands, Shape, InHand}
 use Rattle.lawful.proofs.Shape.{one-same, one-other, held-place}
-use Rattle.lawful.proofs.Put.{block, putting, put}
+use Rattle.lawful.proofs.Fields.{SameTask}
+use Rattle.lawful.proofs.Put.{putting, put}
 use Rattle.lawful.proofs.Queues.{set-nine, set-queue, set-others, set-count, up-same}
 
 module _ {s : State} {k : ℕ} {h : List ℕ} {e : ℕ} (i : InHand s k h e) where
@@ -31,20 +32,26 @@ module _ {s : State} {k : ℕ} {h : List ℕ} {e : ℕ} (i : InHand s k h e) whe
   pub hand-runs : one (s .running) k ≡ 0
   hand-runs = hand-stands .runs ∙ one-other Hand Running (λ z. omega (arith, z))
 
-  -- into the queue q, of the place p: the list m has k once more
-  module _ (p n v t w q : ℕ) (m : List ℕ) (low : q < 8) (own : queueFor p (levelOf s k) ≡ q) (more : (y : ℕ) → count y m ≡ count y (queue s q) + one k y)
-      (f : Fields (s .directory) p (block s k p n v t w)) (kinds : (2 ≤ p) × (p ≤ 5)) where
-    other-times : (y : ℕ) → y ≢ k → taskAt (putting s k p n v t w (set (s .queues) q m) (s .running)) y .time ≡ taskAt s y .time
-    other-times y d = ap (λ (x : Task). x .time) (getD-set-other (s .tasks) k y (block s k p n v t w) noTask d)
+  -- the times of the others stay, whatever becomes of its block
+  pub hand-timed : (x : Task) → upBy (λ a. taskAt (withTask s k x) a .time) (queue s timeQueue) ≡ true
+  hand-timed x =
+      up-same _ (λ a. taskAt s a .time) (queue s timeQueue)
+      (λ y c. ap (λ (t : Task). t .time)
+      (getD-set-other (s .tasks) k y x noTask (λ z. omega (arith, c, hand-count timeQueue (omega arith), ap (λ (j : ℕ). count j (queue s timeQueue)) z))))
+      ∙ i .shape .timed
 
-    pub enter : upBy (λ a. taskAt (putting s k p n v t w (set (s .queues) q m) (s .running)) a .time) (getD (set (s .queues) q m) timeQueue []) ≡ true
-        → Shape (putting s k p n v t w (set (s .queues) q m) (s .running)) h e
+  -- into the queue q, as the block x: the list m has k once more
+  module _ (x : Task) (q : ℕ) (m : List ℕ) (low : q < 8) (own : queueFor (x .place) (levelOf s k) ≡ q) (more : (y : ℕ) → count y m ≡ count y (queue s q) + one k y)
+      (same : SameTask (taskAt s k) x) (f : Fields (s .directory) (x .place) x) (kinds : (2 ≤ x .place) × (x .place ≤ 5)) where
+    pub enter : upBy (λ a. taskAt (withTask s k x) a .time) (getD (set (s .queues) q m) timeQueue []) ≡ true
+        → Shape (putting s k x (set (s .queues) q m) (s .running)) h e
     enter timed =
         let nine = i .shape .sizes .queues in
-        put s k p n v t w (i .shape) (record {
+        put s k x (i .shape) (record {
           some = i .some;
           low = i .low;
           out = i .out;
+          same = same;
           used = omega (arith, kinds);
           fields = f;
           nine = set-nine (s .queues) q m nine (omega arith);
@@ -55,20 +62,16 @@ module _ {s : State} {k : ℕ} {h : List ℕ} {e : ℕ} (i : InHand s k h e) whe
               (λ z. rw (set-others (s .queues) q m nine (omega arith) j (z .1)) (hand-count j l ∙ sym (one-other _ j (λ b. z .1 (sym b ∙ own)))))
               (tested j q);
           bound = i .shape .blank .running;
-          runs = hand-runs ∙ sym (one-other p Running (λ z. omega (arith, z, kinds)));
+          runs = hand-runs ∙ sym (one-other (x .place) Running (λ z. omega (arith, z, kinds)));
           run-others = λ y a b. refl;
           checks = λ z. absurd (omega (arith, z, kinds));
           ends = λ z. absurd (omega (arith, z, kinds));
-          links = omega (arith, one-other p InLink (λ z. omega (arith, z, kinds)));
+          links = omega (arith, one-other (x .place) InLink (λ z. omega (arith, z, kinds)));
           link-others = λ y a d. refl;
           timed = timed;
           channel = set-others (s .queues) q m nine (omega arith) channelQueue (λ z. omega (arith, z));
         })
 
     -- into another queue than the time queue, whose order is then what it was
-    pub enter-other : q ≢ timeQueue → Shape (putting s k p n v t w (set (s .queues) q m) (s .running)) h e
-    enter-other d =
-        enter (rw (set-others (s .queues) q m (i .shape .sizes .queues) (omega arith) timeQueue (λ z. d (sym z)))
-        (up-same _ (λ a. taskAt s a .time) (queue s timeQueue)
-        (λ y c. other-times y (λ z. omega (arith, c, hand-count timeQueue (omega arith), ap (λ (x : ℕ). count x (queue s timeQueue)) z)))
-        ∙ i .shape .timed))
+    pub enter-other : q ≢ timeQueue → Shape (putting s k x (set (s .queues) q m) (s .running)) h e
+    enter-other d = enter (rw (set-others (s .queues) q m (i .shape .sizes .queues) (omega arith) timeQueue (λ z. d (sym z))) (hand-timed x))

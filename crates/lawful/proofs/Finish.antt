@@ -5,14 +5,13 @@ use mathlib.Core.Logic.{_≢_, ⊎-elim}
 use mathlib.Core.List.{List, _∷_}
 use Prim.Native.Nat.{ℕ, _≤_}
 use native.Mathlib.Omega.{arith}
-use lib.ListN.{getD}
 use lib.Seq.{getD-set-same, getD-set-other}
 use Rattle.threads.specs.Threads.{count}
 use Rattle.threads.proofs.Lists.{tested}
 use Rattle.words.specs.Words.{if_then_else_, oneTo}
 use Rattle.tables.specs.declared.Task.{Task}
-use Rattle.tables.specs.State.{State, coreQueue, taskAt, requestAt, queue, unitsOf}
-use Rattle.tables.specs.Blocks.{Running, InLink, Ending, noTask}
+use Rattle.tables.specs.State.{State, coreQueue, taskAt, requestAt, queue, levelOf, unitsOf, withFreeTasks}
+use Rattle.tables.specs.Blocks.{Running, InLink, Ending, noTask, moving}
 use Rattle.calls.specs.declared.Call.{Call}
 use Rattle.meaning.specs.Ready.{placed}
 use Rattle.meaning.specs.Finish.{freedTask, givenBack, pending, freedDone, parentReady, finished, ended}
@@ -20,18 +19,20 @@ use Rattle.meaning.specs.Services.{end}
 use Rattle.meaning.specs.Rules.{queueFor}
 use Rattle.lawful.specs.Shape.{one, placeOf, Pending, Shape, InHand}
 use Rattle.lawful.specs.Resting.{Rest, Lawful, Settled}
-use Rattle.lawful.proofs.Clearing.{ClearsAll, done-cleared}
+use Rattle.lawful.proofs.Clearing.{unasked, ClearsAll, done-cleared}
 use Rattle.lawful.proofs.Pendings.{quiet-of, pending-some}
 use Rattle.lawful.proofs.Tests.{one-to}
 use Rattle.lawful.proofs.Sums.{field-kept, sum-le}
-use Rattle.lawful.proofs.Shape.{one-same, one-other, one-eq, one-le}
+use Rattle.lawful.proofs.Shape.{one-same, one-other, one-eq, one-le, held-place}
+use Rattle.lawful.proofs.Framed.{besides, frame-requests, frame-parents}
 use Rattle.lawful.proofs.Take.{take}
+use Rattle.lawful.proofs.Fields.{plain-fields}
 use Rattle.lawful.proofs.Enter.{hand-stands}
-use Rattle.lawful.proofs.Made.{made-ready, plain-fields, frame-parents}
-use Rattle.lawful.proofs.Members.{not-in, queue-place, runs-place, runs-stands}
+use Rattle.lawful.proofs.Made.{made-ready}
+use Rattle.lawful.proofs.Members.{level-best, level-worst, not-in, queue-place, runs-place, runs-stands}
 use Rattle.lawful.proofs.Leave.{stop}
 use Rattle.lawful.proofs.Resting.{rest-made}
-use Rattle.lawful.proofs.Given.{GivesBack, gives-back}
+use Rattle.lawful.proofs.Given.{back-frame, GivesBack, gives-back}
 use Rattle.lawful.proofs.Freed.{free-task, free-rest}
 use Rattle.lawful.proofs.Link.{park, park-rest}
 use Rattle.lawful.proofs.Calls.{settled, rest-stopped}
@@ -95,33 +96,46 @@ parent-hand {s} {k} i =
     (tested (taskAt s k .parent) 0)
 
 -- ---- Finishing.
+
+-- a state but for its blocks, its pools and its queues
+abbrev pub numbers : State → State
+numbers s = withFreeTasks (unasked (besides s)) 0
+
 pub record Finishes (s s′ : State) (k : ℕ) (h : List ℕ) (m : List ℕ) : Type 0 where
   pub shape : Shape s′ h 0
   pub rest : Rest s′ m
   pub parents : (y : ℕ) → y ≢ k → taskAt s′ y .parent ≡ taskAt s y .parent
   pub own : taskAt s k .parent ≡ 0 → taskAt s′ k .parent ≡ 0
   pub tasks : (y : ℕ) → y ≢ k → y ≢ taskAt s k .parent → ((level : ℕ) → 1 ≤ level → level ≤ 3 → count y (queue s (coreQueue level)) ≡ 0) → taskAt s′ y ≡ taskAt s y
-  pub running : s′ .running ≡ s .running
-  pub directory : s′ .directory ≡ s .directory
+  pub others : numbers s′ ≡ numbers s
 
 module _ {s : State} {k : ℕ} {h : List ℕ} {m : List ℕ} (i : InHand s k h 0) (t : Rest s m) (n : (j : ℕ) → Pending (s .requests) k j → ⊥) where
   abbrev a : State
   a = givenBack s k
 
-  back : GivesBack s a k (k ∷ h) 0 m
+  back : GivesBack a k (k ∷ h) 0 m
   back = gives-back (i .shape) t k (i .some) (i .low)
+
+  best : 1 ≤ levelOf s k
+  best = level-best (i .shape) (i .some) (i .low) (λ z. omega (arith, z, held-place s h k))
+
+  worst : levelOf s k ≤ 3
+  worst = level-worst (i .shape) (i .some) (i .low) (λ z. omega (arith, z, held-place s h k))
 
   abbrev b : State
   b = freedDone a k
 
   cleared : ClearsAll a b k (oneTo 16) (k ∷ h) 0 m
-  cleared = done-cleared (i .some) (back .shape) (back .rest) (λ j p. n j (rw (back .frame .requests) at p))
+  cleared = done-cleared (i .some) (back .shape) (back .rest) (λ j p. n j (rw (frame-requests (back-frame s k)) at p))
+
+  b-task : (y : ℕ) → taskAt b y ≡ taskAt a y
+  b-task y = ap (λ (x : State). taskAt x y) (cleared .clears .others)
 
   abbrev p : ℕ
   p = taskAt b k .parent
 
   pub coreless : taskAt b k .core ≢ 1
-  coreless z = back .frame .core (ap (λ (l : List Task). getD l k noTask .core) (sym (cleared .clears .tasks)) ∙ z)
+  coreless z = back .core (ap (λ (t : Task). t .core) (sym (b-task k)) ∙ z)
 
   pub ownerless : (r : ℕ) → 1 ≤ r → r ≤ 16 → 1 ≤ requestAt b r .place → requestAt b r .owner ≢ k
   ownerless r lo hi u z =
@@ -130,14 +144,13 @@ module _ {s : State} {k : ℕ} {h : List ℕ} {m : List ℕ} (i : InHand s k h 0
       w .quiet r (record { some = lo; low = hi; own = z; first = u; last = omega (arith, w .shape .requests r lo hi .kind, d) })
 
   b-parents : (y : ℕ) → taskAt b y .parent ≡ taskAt s y .parent
-  b-parents y = ap (λ (l : List Task). getD l y noTask .parent) (cleared .clears .tasks) ∙ back .frame .parents y
+  b-parents y = ap (λ (t : Task). t .parent) (b-task y) ∙ frame-parents (back-frame s k) y
 
   -- the block is freed, in a state that has it and the requests as b has
   last : {c : State} {e : ℕ} → Shape c (k ∷ h) e → Rest c m → taskAt c k ≡ taskAt b k → c .requests ≡ b .requests → p ≡ e
-      → ((y : ℕ) → taskAt c y .parent ≡ taskAt b y .parent) → c .running ≡ b .running
-      → ((y : ℕ) → y ≢ taskAt s k .parent → taskAt c y ≡ taskAt b y) → c .directory ≡ b .directory → Finishes s (freedTask c k) k h m
+      → ((y : ℕ) → taskAt c y .parent ≡ taskAt b y .parent) → ((y : ℕ) → y ≢ taskAt s k .parent → taskAt c y ≡ taskAt b y) → numbers c ≡ numbers b → Finishes s (freedTask c k) k h m
   unfolding freedTask
-  last {c} {e} g r o q l f u v x =
+  last {c} {e} g r o q l f v x =
       let j : InHand c k h e = record { some = i .some; low = i .low; out = i .out; shape = g } in
       let cl : taskAt c k .core ≢ 1 = λ z. coreless (ap (λ (t : Task). t .core) (sym o) ∙ z) in
       let ol : (r : ℕ) → 1 ≤ r → r ≤ 16 → 1 ≤ requestAt c r .place → requestAt c r .owner ≢ k = λ r. rw q (ownerless r) in
@@ -149,9 +162,8 @@ module _ {s : State} {k : ℕ} {h : List ℕ} {m : List ℕ} (i : InHand s k h 0
         own = λ z. ap (λ (t : Task). t .parent) (getD-set-same (c .tasks) k noTask noTask (omega (arith, g .sizes .tasks, i .low)));
         tasks = λ y d d′ z.
             getD-set-other (c .tasks) k y noTask noTask d ∙ v y d′
-            ∙ ap (λ (l : List Task). getD l y noTask) (cleared .clears .tasks) ∙ back .frame .tasks y d z;
-        running = u ∙ cleared .clears .running ∙ back .frame .running;
-        directory = x ∙ cleared .clears .directory ∙ back .frame .directory;
+            ∙ b-task y ∙ back-frame s k .tasks y (λ b. ⊎-elim d (λ c. omega (arith, c, z (levelOf s k) best worst)) b);
+        others = x ∙ ap (λ (y : State). numbers y) (cleared .clears .others) ∙ ap (λ (y : State). numbers y) (back-frame s k .others);
       }
 
   pub finish : Finishes s (finished s k) k h m
@@ -159,14 +171,14 @@ module _ {s : State} {k : ℕ} {h : List ℕ} {m : List ℕ} (i : InHand s k h 0
   finish =
       let w = cleared .clears in
       ⊎-elim
-      (λ z. rw (z .0) (last (w .shape) (w .rest) refl refl (z .1) (λ y. refl) refl (λ y d. refl) refl))
+      (λ z. rw (z .0) (last (w .shape) (w .rest) refl refl (z .1) (λ y. refl) (λ y d. refl) refl))
       (λ z. rw (z .0) (
       let g = w .shape in
       let d = parent-apart g k (i .low) (z .1) (i .some) in
       let j = grab g p (omega (arith, z .1)) (parent-low g k (i .low) (z .1) (i .some)) (parent-links g k (i .low) (z .1) (i .some)) in
       let v = made-ready j in
-      last (v .shape) (rest-made j v (w .rest)) (v .frame .tasks k (λ y. d (sym y))) (v .frame .requests) refl (frame-parents (v .frame)) (v .frame .running)
-      (λ y x. v .frame .tasks y (λ z. x (z ∙ b-parents k))) (v .frame .directory)))
+      last (v .shape) (rest-made j v (w .rest)) (v .frame .tasks k (λ y. d (sym y))) (frame-requests (v .frame)) refl (frame-parents (v .frame))
+      (λ y x. v .frame .tasks y (λ z. x (z ∙ b-parents k))) (ap (λ (y : State). numbers y) (v .frame .others))))
       (tested p 0)
 
 -- ---- Ending.
@@ -177,16 +189,15 @@ module _ {s : State} {k : ℕ} {h : List ℕ} {m : List ℕ} (i : InHand s k h 0
     where
       go : (b : Bool) → pending s k ≡ b → Finishes s (if b then placed s k Ending else finished s k) k h m
       go true e =
-          let f = plain-fields {p = Ending} (hand-stands i .fields) (omega arith) (omega arith) (λ z. omega (arith, z)) (λ z. omega (arith, z)) u in
+          let f = plain-fields (hand-stands i .fields) Ending (omega arith) (omega arith) (λ z. omega (arith, z)) (λ z. omega (arith, z)) refl u in
           record {
-            shape = park i Ending 0 0 (omega arith) f (λ z. absurd (omega (arith, z))) (λ z. pending-some s k e)
+            shape = park i (moving (taskAt s k) Ending) 0 (omega arith) refl f (λ z. absurd (omega (arith, z))) (λ z. pending-some s k e)
                 (omega (arith, one-other Ending InLink (λ z. omega (arith, z)))) (λ y a d. refl);
-            rest = park-rest i Ending 0 0 (omega arith) f t;
+            rest = park-rest i (moving (taskAt s k) Ending) t;
             parents = λ y d. ap (λ (t : Task). t .parent) (getD-set-other (s .tasks) k y _ noTask d);
             own = λ z. field-kept (λ t. t .parent) (s .tasks) k k _ noTask refl ∙ z;
             tasks = λ y d d′ z. getD-set-other (s .tasks) k y _ noTask d;
-            running = refl;
-            directory = refl;
+            others = refl;
           }
       go false e = finish i t (quiet-of s k e)
 

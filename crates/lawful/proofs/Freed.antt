@@ -1,64 +1,35 @@
 -- A task block in hand is freed, where it has no core and no request; its parent, excused until then, has no child any more. The law of one changed block.
 use mathlib.Core.Bool.{cond}
 use mathlib.Core.Path.{_≡_, refl, sym, ap, _∙_}
-use mathlib.Core.Logic.{_≢_, _⊎_, inl, inr, ⊎-elim}
+use mathlib.Core.Logic.{_≢_, inl, inr, ⊎-elim}
 use mathlib.Core.List.{List, _∷_}
-use Prim.Native.Nat.{ℕ, _+_, _≤_, _<_}
+use Prim.Native.Nat.{ℕ, _+_, _≤_}
 use native.Mathlib.Omega.{arith}
 use lib.ListN.{set, length-set}
 use lib.Seq.{getD-set-same, getD-set-other}
-use Rattle.threads.specs.Threads.{count}
 use Rattle.threads.proofs.Lists.{tested}
 use Rattle.words.specs.Words.{_among_, adding}
 use Rattle.words.proofs.Changes.{adding-low}
-use Rattle.image.specs.declared.Directory.{Directory}
 use Rattle.tables.specs.declared.Task.{Task}
-use Rattle.tables.specs.State.{State, timeQueue, state, taskAt, requestAt, queue}
-use Rattle.tables.specs.Blocks.{Free, Running, Ready, InCore, InEvent, InLink, InCheck, Ending, task, noTask}
+use Rattle.tables.specs.State.{State, withFreeTasks, withTask, taskAt, requestAt}
+use Rattle.tables.specs.Blocks.{Free, Running, InLink, noTask}
 use Rattle.meaning.specs.Finish.{freedTask}
 use Rattle.meaning.specs.Rules.{queueFor}
-use Rattle.lawful.specs.Shape.{one, Hand, placeOf, Fields, Stands, children, Shape, InHand}
+use Rattle.lawful.specs.Shape.{one, Hand, placeOf, Stands, children, Shape, InHand}
 use Rattle.lawful.specs.Resting.{Rest}
 use Rattle.lawful.proofs.Change.{change, past-hand, core-kept, ranked-kept}
+use Rattle.lawful.proofs.Fields.{free-fields}
 use Rattle.lawful.proofs.Sums.{sum-set}
 use Rattle.lawful.proofs.Shape.{one-same, one-other, held-place, other-place, out-place, one-sym}
-use Rattle.lawful.proofs.Queues.{up-same}
 use Rattle.lawful.proofs.Cored.{holding-none}
 use Rattle.lawful.proofs.Free.{added-same, added-other}
-use Rattle.lawful.proofs.Enter.{hand-count, hand-runs}
+use Rattle.lawful.proofs.Enter.{hand-count, hand-runs, hand-timed}
 use Rattle.lawful.proofs.Resting.{rest-alone}
-
--- a block with no core and no condition, of the module m and the parent q: it may be free, where it is zero, or in hand
-pub new-fields : (d : Directory) {p m q : ℕ} → (p ≡ Free) ⊎ (p ≡ Hand) → (p ≡ Free → m + q ≡ 0) → (p ≢ Free → m < d .modules) → q ≤ 24
-    → Fields d p (task 0 m q 0 0 0 0 0 0)
-new-fields d {p} {m} {q} either zero known parent =
-    let other : (n : ℕ) → 1 ≤ n → n ≤ 8 → p ≢ n = λ n a b z. ⊎-elim (λ e. omega (arith, e, z)) (λ e. omega (arith, e, z)) either in
-    record {
-      kind = ⊎-elim (λ e. omega (arith, e)) (λ e. omega (arith, e)) either;
-      place = omega arith;
-      free = λ z. omega (arith, zero z);
-      program = known;
-      parent = parent;
-      core = omega arith;
-      inside = λ z. absurd (omega (arith, z));
-      start = λ z. refl;
-      unneeded = λ z. refl;
-      waits = λ z. absurd (other InCore (omega arith) (omega arith) z);
-      needs = λ i j. (other Running (omega arith) (omega arith), other Ready (omega arith) (omega arith), other InLink (omega arith) (omega arith), other InCheck (omega arith) (omega arith), other Ending (omega arith) (omega arith));
-      event = λ i j. refl;
-      time = λ i j. refl;
-      request = λ i j. refl;
-      passes = λ z. absurd (other InEvent (omega arith) (omega arith) z);
-    }
-
--- a block that is zero is free
-pub free-fields : (d : Directory) → Fields d Free noTask
-free-fields d = new-fields d (inl refl) (λ z. refl) (λ z. absurd (z refl)) (omega arith)
 
 module _ {s : State} {k : ℕ} {h : List ℕ} {e : ℕ} (i : InHand s k h e) (coreless : taskAt s k .core ≢ 1)
     (ownerless : (r : ℕ) → 1 ≤ r → r ≤ 16 → 1 ≤ requestAt s r .place → requestAt s r .owner ≢ k) (link : taskAt s k .parent ≡ e) where
   abbrev freed : State
-  freed = state s.directory s.clock s.on s.running s.channel (adding (s .freeTasks) k) s.freeRequests s.pools (set (s .tasks) k noTask) s.requests s.queues
+  freed = withTask (withFreeTasks s (adding (s .freeTasks) k)) k noTask
 
   g : Shape s (k ∷ h) e
   g = i .shape
@@ -126,10 +97,7 @@ module _ {s : State} {k : ℕ} {h : List ℕ} {e : ℕ} (i : InHand s k h e) (co
             ranked-kept (g .ranked) (λ y b.
             ⊎-elim (λ z. inr (ap (λ (x : ℕ). taskAt freed x .parent) (z .1) ∙ ap (λ (t : Task). t .parent) same))
             (λ z. inl (ap (λ (t : Task). t .parent) (other y (z .1)))) (tested y k));
-        timed =
-            up-same _ (λ a. taskAt s a .time) (queue s timeQueue)
-            (λ y c. ap (λ (t : Task). t .time) (other y (λ z. omega (arith, c, hand-count i timeQueue (omega arith), ap (λ (x : ℕ). count x (queue s timeQueue)) z))))
-            ∙ g .timed;
+        timed = hand-timed i noTask;
         channel = refl;
       })
 

@@ -1,6 +1,6 @@
 -- A task gives its core back, if it has any, and the core queue of its level is served: FREEMAIN, and the first step of finishing.
 use mathlib.Core.Path.{_≡_, refl, sym, ap, _∙_}
-use mathlib.Core.Logic.{_≢_, ⊎-elim}
+use mathlib.Core.Logic.{_≢_, _⊎_, inl, inr, ⊎-elim}
 use mathlib.Core.List.{List}
 use Prim.Native.Nat.{ℕ, _-_, _≤_}
 use native.Mathlib.Omega.{arith}
@@ -19,30 +19,23 @@ use Rattle.meaning.specs.Finish.{givenBack}
 use Rattle.meaning.specs.Services.{freemain}
 use Rattle.lawful.specs.Shape.{Shape}
 use Rattle.lawful.specs.Resting.{Rest, Lawful, Settled}
+use Rattle.lawful.proofs.Small.{none}
+use Rattle.lawful.proofs.Framed.{Any, Framed, framed, back-ready}
 use Rattle.lawful.proofs.Sums.{field-kept}
 use Rattle.lawful.proofs.Cored.{recored, coring, give-back, core-units, used-holder}
 use Rattle.lawful.proofs.Members.{level-best, level-worst, member-core}
 use Rattle.lawful.proofs.Made.{stuck-same}
-use Rattle.lawful.proofs.Served.{RestBut, serve}
+use Rattle.lawful.proofs.Served.{RestBut, serve, served-frame}
 use Rattle.lawful.proofs.Calls.{settled}
 
--- what giving back does not touch, of the blocks that wait for no core and of k itself
-pub record Back (s s′ : State) (k : ℕ) : Type 0 where
-  pub directory : s′ .directory ≡ s .directory
-  pub clock : s′ .clock ≡ s .clock
-  pub on : s′ .on ≡ s .on
-  pub running : s′ .running ≡ s .running
-  pub channel : s′ .channel ≡ s .channel
-  pub requests : s′ .requests ≡ s .requests
-  pub tasks : (y : ℕ) → y ≢ k → ((level : ℕ) → 1 ≤ level → level ≤ 3 → count y (queue s (coreQueue level)) ≡ 0) → taskAt s′ y ≡ taskAt s y
-  pub core : taskAt s′ k .core ≢ 1
-  pub parents : (y : ℕ) → taskAt s′ y .parent ≡ taskAt s y .parent
-  pub place : taskAt s′ k .place ≡ taskAt s k .place
+-- what giving back touches: k, and those that wait for core of its level
+pub back-frame : (s : State) (k : ℕ) → Framed (λ y. (y ≡ k) ⊎ (1 ≤ count y (queue s (coreQueue (levelOf s k))))) Any s (givenBack s k)
+back-frame s k = framed (back-ready _ _ s s k (inl refl) (λ y c. inr c) (λ q. refl) none)
 
-pub record GivesBack (s s′ : State) (k : ℕ) (h : List ℕ) (e : ℕ) (m : List ℕ) : Type 0 where
+pub record GivesBack (s′ : State) (k : ℕ) (h : List ℕ) (e : ℕ) (m : List ℕ) : Type 0 where
   pub shape : Shape s′ h e
   pub rest : Rest s′ m
-  pub frame : Back s s′ k
+  pub core : taskAt s′ k .core ≢ 1
 
 module _ {s : State} {h : List ℕ} {e : ℕ} {m : List ℕ} (g : Shape s h e) (r : Rest s m) (k : ℕ) (some : 1 ≤ k) (low : k ≤ 24) where
   module _ (o : taskAt s k .core ≡ 1) where
@@ -69,54 +62,22 @@ module _ {s : State} {h : List ℕ} {e : ℕ} {m : List ℕ} (g : Shape s h e) (
           flowing = record { flowing = r .flowing .flowing };
         }
 
-    freed-served : GivesBack s (served freed (levelOf s k)) k h e m
+    freed-served : GivesBack (served freed (levelOf s k)) k h e m
     freed-served =
         let u = used-holder g some low o in
         let best = level-best g some low u in
         let worst = level-worst g some low u in
         let w = serve best worst freed (give-back g some low o) freed-rest in
-        let f = w .frame in
-        let own = f .tasks k (not-waiting (levelOf s k) best worst) in
+        let own = served-frame freed (levelOf s k) .tasks k (λ c. omega (arith, c, not-waiting (levelOf s k) best worst)) in
         record {
           shape = w .shape;
           rest = w .rest;
-          frame = record {
-            directory = f .directory;
-            clock = f .clock;
-            on = f .on;
-            running = f .running;
-            channel = f .channel;
-            requests = f .requests;
-            tasks = λ y n c. f .tasks y (c (levelOf s k) best worst) ∙ getD-set-other (s .tasks) k y _ noTask n;
-            core = λ z.
-                omega (arith, sym (ap (λ (t : Task). t .core) (own ∙ getD-set-same (s .tasks) k _ noTask (omega (arith, g .sizes .tasks)))) ∙ z);
-            parents = λ y. f .parents y ∙ kept (λ t. t .parent) refl y;
-            place = ap (λ (t : Task). t .place) own ∙ kept (λ t. t .place) refl k;
-          };
+          core = λ z. omega (arith, sym (ap (λ (t : Task). t .core) (own ∙ getD-set-same (s .tasks) k _ noTask (omega (arith, g .sizes .tasks)))) ∙ z);
         }
 
-  pub gives-back : GivesBack s (givenBack s k) k h e m
+  pub gives-back : GivesBack (givenBack s k) k h e m
   unfolding givenBack
-  gives-back =
-      ⊎-elim
-      (λ z. rw (z .0) (freed-served (z .1)))
-      (λ z. rw (z .0) (record {
-        shape = g;
-        rest = r;
-        frame = record {
-          directory = refl;
-          clock = refl;
-          on = refl;
-          running = refl;
-          channel = refl;
-          requests = refl;
-          tasks = λ y n c. refl;
-          core = z .1;
-          parents = λ y. refl;
-          place = refl;
-        };
-      }))
-      (tested (taskAt s k .core) 1)
+  gives-back = ⊎-elim (λ z. rw (z .0) (freed-served (z .1))) (λ z. rw (z .0) (record { shape = g; rest = r; core = z .1 })) (tested (taskAt s k .core) 1)
 
 -- ---- FREEMAIN.
 pub freemain-keeps : {s : State} (c : Call) → Lawful s → s .running ≢ 0 → Settled (freemain s c .state)

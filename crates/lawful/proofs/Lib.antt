@@ -12,6 +12,7 @@ pub mod Pendings
 -- The law of one changed task block, its cases, and that of one request block.
 pub mod Members
 pub mod Change
+pub mod Fields
 pub mod Put
 pub mod Take
 pub mod Cored
@@ -24,6 +25,8 @@ pub mod Ask
 pub mod Still
 -- Getting ready, and the rules of rest.
 pub mod Cases
+pub mod Small
+pub mod Framed
 pub mod Made
 pub mod Resting
 pub mod Waits
@@ -48,7 +51,6 @@ pub mod IoDone
 -- Every call.
 pub mod Loaded
 pub mod Keeps
-pub mod Small
 pub mod Chain
 pub mod Stays
 pub mod Turns

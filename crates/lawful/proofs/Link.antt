@@ -6,11 +6,10 @@ use mathlib.Core.List.{List, [], _∷_}
 use Prim.Native.Nat.{ℕ, _+_, _≤_, _<_}
 use native.Mathlib.Omega.{arith}
 use lib.Seq.{getD-set-other}
-use Rattle.threads.specs.Threads.{count}
 use Rattle.words.specs.Words.{least}
 use Rattle.tables.specs.declared.Task.{Task}
-use Rattle.tables.specs.State.{State, timeQueue, taskAt, queue, levelOf, unitsOf, withRunning}
-use Rattle.tables.specs.Blocks.{Free, Running, InLink, InCheck, Ending, noTask}
+use Rattle.tables.specs.State.{State, taskAt, levelOf, unitsOf, withRunning, withTask}
+use Rattle.tables.specs.Blocks.{Free, Running, InLink, InCheck, Ending, noTask, moving}
 use Rattle.calls.specs.declared.Call.{Call}
 use Rattle.meaning.specs.Ready.{madeReady}
 use Rattle.meaning.specs.Services.{stopped, created, link}
@@ -18,10 +17,10 @@ use Rattle.meaning.specs.Rules.{queueFor}
 use Rattle.lawful.specs.Shape.{one, bit, Fields, Pending, Shape, InHand}
 use Rattle.lawful.specs.Resting.{Rest, Lawful, Settled}
 use Rattle.lawful.proofs.Shape.{one-same, one-other}
-use Rattle.lawful.proofs.Put.{block, putting, put}
-use Rattle.lawful.proofs.Queues.{up-same}
-use Rattle.lawful.proofs.Enter.{hand-stands, hand-count, hand-runs}
-use Rattle.lawful.proofs.Made.{made-ready, plain-fields}
+use Rattle.lawful.proofs.Fields.{SameTask, plain-fields}
+use Rattle.lawful.proofs.Put.{put}
+use Rattle.lawful.proofs.Enter.{hand-stands, hand-count, hand-runs, hand-timed}
+use Rattle.lawful.proofs.Made.{made-ready}
 use Rattle.lawful.proofs.Leave.{stop}
 use Rattle.lawful.proofs.Members.{runs-place, runs-stands, queue-place}
 use Rattle.lawful.proofs.Free.{least-in}
@@ -29,42 +28,38 @@ use Rattle.lawful.proofs.Resting.{rest-alone, rest-made}
 use Rattle.lawful.proofs.Calls.{settled, new, new-rest, rest-stopped}
 
 -- ---- Parking.
-module _ {s : State} {k : ℕ} {h : List ℕ} {e : ℕ} (i : InHand s k h e) (p w e′ : ℕ) (kinds : (6 ≤ p) × (p ≤ 8))
-    (f : Fields (s .directory) p (block s k p 0 0 0 w)) where
-  pub park : (p ≡ InCheck → Pending (s .requests) k w) → (p ≡ Ending → (r : ℕ) × Pending (s .requests) k r)
-      → one p InLink + one k e′ ≡ one k e → ((y : ℕ) → 1 ≤ y → y ≢ k → one y e′ ≡ one y e)
-      → Shape (putting s k p 0 0 0 w (s .queues) (s .running)) h e′
+module _ {s : State} {k : ℕ} {h : List ℕ} {e : ℕ} (i : InHand s k h e) (x : Task) (e′ : ℕ) (kinds : (6 ≤ x .place) × (x .place ≤ 8))
+    (same : SameTask (taskAt s k) x) (f : Fields (s .directory) (x .place) x) where
+  pub park : (x .place ≡ InCheck → Pending (s .requests) k (x .request)) → (x .place ≡ Ending → (r : ℕ) × Pending (s .requests) k r)
+      → one (x .place) InLink + one k e′ ≡ one k e → ((y : ℕ) → 1 ≤ y → y ≢ k → one y e′ ≡ one y e)
+      → Shape (withTask s k x) h e′
   park checks ends links others =
-      put s k p 0 0 0 w (i .shape) (record {
+      put s k x (i .shape) (record {
         some = i .some;
         low = i .low;
         out = i .out;
+        same = same;
         used = omega (arith, kinds);
         fields = f;
         nine = i .shape .sizes .queues;
         others = λ q y d. refl;
         own = λ q l. hand-count i q l ∙ sym (parked q l);
         bound = i .shape .blank .running;
-        runs = hand-runs i ∙ sym (one-other p Running (λ z. omega (arith, z, kinds)));
+        runs = hand-runs i ∙ sym (one-other (x .place) Running (λ z. omega (arith, z, kinds)));
         run-others = λ y a d. refl;
         checks = checks;
         ends = ends;
         links = links;
         link-others = others;
-        timed =
-            up-same _ (λ a. taskAt s a .time) (queue s timeQueue)
-            (λ y c. ap (λ (x : Task). x .time)
-            (getD-set-other (s .tasks) k y _ noTask (λ z. omega (arith, c, hand-count i timeQueue (omega arith), ap (λ (x : ℕ). count x (queue s timeQueue)) z))))
-            ∙ i .shape .timed;
+        timed = hand-timed i x;
         channel = refl;
       })
     where
-      parked : (q : ℕ) → q < 9 → one (queueFor p (levelOf s k)) q ≡ 0
-      parked q l = one-other _ q (λ z. let b = queue-place p (levelOf s k) q z l in omega (arith, b, kinds))
+      parked : (q : ℕ) → q < 9 → one (queueFor (x .place) (levelOf s k)) q ≡ 0
+      parked q l = one-other _ q (λ z. let b = queue-place (x .place) (levelOf s k) q z l in omega (arith, b, kinds))
 
-  pub park-rest : {m : List ℕ} → Rest s m → Rest (putting s k p 0 0 0 w (s .queues) (s .running)) m
-  park-rest r =
-      rest-alone {s = s} {k = k} refl refl refl refl refl (λ y d. getD-set-other (s .tasks) k y _ noTask d) (hand-count i) r
+pub park-rest : {s : State} {k : ℕ} {h m : List ℕ} {e : ℕ} → InHand s k h e → (x : Task) → Rest s m → Rest (withTask s k x) m
+park-rest {s} {k} i x r = rest-alone {s = s} {k = k} refl refl refl refl refl (λ y d. getD-set-other (s .tasks) k y x noTask d) (hand-count i) r
 
 -- ---- LINK.
 module _ {s : State} (g : Lawful s) (m : ℕ) (known : m < s .directory .modules) (some : s .freeTasks ≢ 0) (n : s .running ≢ 0) where
@@ -109,8 +104,8 @@ module _ {s : State} (g : Lawful s) (m : ℕ) (known : m < s .directory .modules
         low = child-hand .low;
         out = child-hand .out;
         shape =
-            park caller-hand InLink 0 0 (omega arith)
-            (plain-fields (hand-stands caller-hand .fields) (omega arith) (omega arith) (λ z. omega (arith, z)) (λ z. omega (arith, z)) caller-needs)
+            park caller-hand (moving (taskAt child (s .running)) InLink) 0 (omega arith) refl
+            (plain-fields (hand-stands caller-hand .fields) InLink (omega arith) (omega arith) (λ z. omega (arith, z)) (λ z. omega (arith, z)) refl caller-needs)
             (λ z. absurd (omega (arith, z))) (λ z. absurd (omega (arith, z)))
             (omega (arith, one-same InLink InLink refl, one-other (s .running) 0 n, one-same (s .running) (s .running) refl))
             (λ y a d. one-other y 0 (λ z. omega (arith, z, a)) ∙ sym (one-other y (s .running) d));
@@ -119,8 +114,7 @@ module _ {s : State} (g : Lawful s) (m : ℕ) (known : m < s .directory .modules
   linked-rest : Rest (stopped child InLink) []
   unfolding stopped created
   linked-rest =
-      park-rest caller-hand InLink 0 0 (omega arith)
-      (plain-fields (hand-stands caller-hand .fields) (omega arith) (omega arith) (λ z. omega (arith, z)) (λ z. omega (arith, z)) caller-needs)
+      park-rest caller-hand (moving (taskAt child (s .running)) InLink)
       (rest-stopped child 0 (new-rest g m known some (s .running) (g .shape .blank .running) caller-apart))
 
   pub link-settled : Settled (madeReady (stopped child InLink) k)

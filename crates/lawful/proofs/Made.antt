@@ -7,104 +7,43 @@ use Prim.Native.Nat.{ℕ, _+_, _≤_, _<_}
 use native.Mathlib.Omega.{arith}
 use lib.ListN.{set, getD}
 use lib.Seq.{getD-set-same, getD-set-other}
-use lib.Bits.{bitAnd}
 use lib.Dec.{ltb}
 use borrow.Author.Tests.{ltb-true, ltb-false}
 use Rattle.threads.specs.Threads.{hd, count}
 use Rattle.threads.proofs.Lists.{tested}
-use Rattle.words.specs.Words.{isEmpty, size}
-use Rattle.image.specs.declared.Directory.{Directory}
+use Rattle.words.specs.Words.{isEmpty}
+use Rattle.image.specs.Directory.{noEntry}
 use Rattle.tables.specs.declared.Task.{Task}
-use Rattle.tables.specs.State.{State, eventQueue, timeQueue, channelQueue, coreQueue, taskAt, poolAt, queue, levelOf, unitsOf, joining}
-use Rattle.tables.specs.Blocks.{Free, Running, Ready, InCore, InEvent, InTime, InLink, InCheck, Ending, noTask, task}
+use Rattle.tables.specs.State.{State, eventQueue, coreQueue, taskAt, poolAt, queue, levelOf, unitsOf, joining}
+use Rattle.tables.specs.Blocks.{Free, Ready, InCore, noTask, moving}
 use Rattle.pools.specs.Pools.{startOf}
 use Rattle.meaning.specs.Ready.{placed, startFor, fits, needsCore, givenRun, readied, awaitsCore, madeReady}
 use Rattle.meaning.specs.Conditions.{enough}
 use Rattle.meaning.specs.Rules.{queueFor}
-use Rattle.lawful.specs.Shape.{Hand, placeOf, moduleOf, Fields, Shape, InHand}
+use Rattle.lawful.specs.Shape.{placeOf, Shape, InHand}
 use Rattle.lawful.specs.Resting.{Asleep, Stuck}
 use Rattle.lawful.proofs.Cases.{needs, needs-true}
+use Rattle.lawful.proofs.Small.{none}
+use Rattle.lawful.proofs.Framed.{Framed, framed, readied-ready, awaits-ready, seats-ready}
 use Rattle.lawful.proofs.Sums.{field-kept}
 use Rattle.lawful.proofs.Shape.{held-place}
 use Rattle.lawful.proofs.Queues.{set-queue, set-others, count-last}
 use Rattle.lawful.proofs.Members.{level-best, level-worst}
 use Rattle.lawful.proofs.Cored.{grant, core-units}
+use Rattle.lawful.proofs.Fields.{plain-fields, waiting-fields}
 use Rattle.lawful.proofs.Enter.{hand-stands, enter-other}
 
--- ---- What getting ready does not touch: all but the block k, its level's queues and its level's pool.
-pub record Frame (s s′ : State) (k : ℕ) : Type 0 where
-  pub directory : s′ .directory ≡ s .directory
-  pub clock : s′ .clock ≡ s .clock
-  pub on : s′ .on ≡ s .on
-  pub running : s′ .running ≡ s .running
-  pub channel : s′ .channel ≡ s .channel
-  pub requests : s′ .requests ≡ s .requests
-  pub tasks : (y : ℕ) → y ≢ k → taskAt s′ y ≡ taskAt s y
-  pub parent : taskAt s′ k .parent ≡ taskAt s k .parent
-  pub program : taskAt s′ k .program ≡ taskAt s k .program
-  pub event : queue s′ eventQueue ≡ queue s eventQueue
-  pub time : queue s′ timeQueue ≡ queue s timeQueue
-  pub requested : queue s′ channelQueue ≡ queue s channelQueue
+-- ---- What getting ready touches: the block k, and a ready or core queue.
+abbrev pub Lines : ℕ → Type 0
+Lines q = (1 ≤ q) × (q ≤ 6)
+
+abbrev pub Frame : State → State → ℕ → Type 0
+Frame s s′ k = Framed (λ y. y ≡ k) Lines s s′
 
 pub record Made (s s′ : State) (k : ℕ) (h : List ℕ) (e : ℕ) : Type 0 where
   pub shape : Shape s′ h e
   pub frame : Frame s s′ k
   pub stuck : (level : ℕ) → 1 ≤ level → level ≤ 3 → Stuck s level → Stuck s′ level
-
--- ---- The fields of a block that was in hand, put in a place: what the place asks is all that is left to show.
-pub record Asked (d : Directory) (t : Task) (p n v x w : ℕ) : Type 0 where
-  pub waits : p ≡ InCore → (1 ≤ moduleOf d t .units) × (t .core ≡ 0)
-  pub needs : 1 ≤ moduleOf d t .units → t .core ≡ 0 → (p ≢ Running) × (p ≢ Ready) × (p ≢ InLink) × (p ≢ InCheck) × (p ≢ Ending)
-  pub event : p ≢ InEvent → n + v ≡ 0
-  pub time : p ≢ InTime → x ≡ 0
-  pub request : p ≢ InCheck → w ≡ 0
-  pub passes : p ≡ InEvent → (bitAnd v (d .defined) ≡ v) × (1 ≤ n) × (n ≤ size v)
-
-pub put-fields : {d : Directory} {t : Task} {p n v x w : ℕ} → Fields d Hand t → 1 ≤ p → p ≤ 8 → Asked d t p n v x w
-    → Fields d p (task p t.program t.parent t.core t.start n v x w)
-put-fields f a b q =
-    record {
-      kind = omega (arith, b);
-      place = b;
-      free = λ z. absurd (omega (arith, z, a));
-      program = λ z. f .program (λ i. omega (arith, i));
-      parent = f .parent;
-      core = f .core;
-      inside = f .inside;
-      start = f .start;
-      unneeded = f .unneeded;
-      waits = q .waits;
-      needs = q .needs;
-      event = λ i j. q .event i;
-      time = λ i j. q .time i;
-      request = λ i j. q .request i;
-      passes = q .passes;
-    }
-
--- in a place of no fields of its own
-pub plain-fields : {d : Directory} {t : Task} {p : ℕ} → Fields d Hand t → 1 ≤ p → p ≤ 8 → p ≢ InCore → p ≢ InEvent
-    → (1 ≤ moduleOf d t .units → t .core ≡ 0 → ⊥) → Fields d p (task p t.program t.parent t.core t.start 0 0 0 0)
-plain-fields f a b c e n =
-    put-fields f a b (record {
-      waits = λ z. absurd (c z);
-      needs = λ i j. absurd (n i j);
-      event = λ i. refl;
-      time = λ i. refl;
-      request = λ i. refl;
-      passes = λ z. absurd (e z);
-    })
-
-pub waiting-fields : {d : Directory} {t : Task} → Fields d Hand t → 1 ≤ moduleOf d t .units → t .core ≡ 0
-    → Fields d InCore (task InCore t.program t.parent t.core t.start 0 0 0 0)
-waiting-fields f n c =
-    put-fields f (omega arith) (omega arith) (record {
-      waits = λ z. (n, c);
-      needs = λ i j. omega arith;
-      event = λ i. refl;
-      time = λ i. refl;
-      request = λ i. refl;
-      passes = λ z. absurd (omega (arith, z));
-    })
 
 -- ---- The rules of rest, where nothing that they read has changed.
 pub stuck-same : {s s′ : State} {level : ℕ} → queue s′ (coreQueue level) ≡ queue s (coreQueue level) → poolAt s′ level ≡ poolAt s level
@@ -121,26 +60,6 @@ asleep-same {s} {s′} {m} q o t g =
 needs-false : (s : State) (k : ℕ) → needsCore s k ≡ false → 1 ≤ unitsOf s k → taskAt s k .core ≡ 0 → ⊥
 needs-false s k e a b = true≢false (sym (needs s k (λ z. omega (arith, a, z)) b) ∙ e)
 
-pub frame-trans : {s s₁ s₂ : State} {k : ℕ} → Frame s s₁ k → Frame s₁ s₂ k → Frame s s₂ k
-frame-trans a b =
-    record {
-      directory = b .directory ∙ a .directory;
-      clock = b .clock ∙ a .clock;
-      on = b .on ∙ a .on;
-      running = b .running ∙ a .running;
-      channel = b .channel ∙ a .channel;
-      requests = b .requests ∙ a .requests;
-      tasks = λ y n. b .tasks y n ∙ a .tasks y n;
-      parent = b .parent ∙ a .parent;
-      program = b .program ∙ a .program;
-      event = b .event ∙ a .event;
-      time = b .time ∙ a .time;
-      requested = b .requested ∙ a .requested;
-    }
-
-pub frame-parents : {s s′ : State} {k : ℕ} → Frame s s′ k → (y : ℕ) → taskAt s′ y .parent ≡ taskAt s y .parent
-frame-parents {s} {s′} {k} f y = ⊎-elim (λ z. rw (z .1) (f .parent)) (λ z. ap (λ (t : Task). t .parent) (f .tasks y (z .1))) (tested y k)
-
 -- ---- To the end of the ready queue, or of the core queue, of its level.
 module _ {s : State} {k : ℕ} {h : List ℕ} {e : ℕ} (i : InHand s k h e) where
   hand-used : placeOf s (k ∷ h) k ≢ Free
@@ -152,42 +71,9 @@ module _ {s : State} {k : ℕ} {h : List ℕ} {e : ℕ} (i : InHand s k h e) whe
   worst : levelOf s k ≤ 3
   worst = level-worst (i .shape) (i .some) (i .low) hand-used
 
-  -- what leaves k's block and one of its level's queues changed, no more
-  framed : (q : ℕ) (m : List ℕ) (x : Task) (p : List ℕ) → 1 ≤ q → q ≤ 6 → x .parent ≡ taskAt s k .parent → x .program ≡ taskAt s k .program
-      → Frame s (record {
-        directory = s .directory;
-        clock = s .clock;
-        on = s .on;
-        running = s .running;
-        channel = s .channel;
-        freeTasks = s .freeTasks;
-        freeRequests = s .freeRequests;
-        pools = p;
-        tasks = set (s .tasks) k x;
-        requests = s .requests;
-        queues = set (s .queues) q m;
-      }) k
-  framed q m x p a b c d =
-      let nine = i .shape .sizes .queues in
-      let l : q < 9 = omega arith in
-      record {
-        directory = refl;
-        clock = refl;
-        on = refl;
-        running = refl;
-        channel = refl;
-        requests = refl;
-        tasks = λ y z. getD-set-other (s .tasks) k y x noTask z;
-        parent = field-kept (λ t. t .parent) (s .tasks) k k x noTask c;
-        program = field-kept (λ t. t .program) (s .tasks) k k x noTask d;
-        event = set-others (s .queues) q m nine l eventQueue (λ z. omega (arith, z));
-        time = set-others (s .queues) q m nine l timeQueue (λ z. omega (arith, z));
-        requested = set-others (s .queues) q m nine l channelQueue (λ z. omega (arith, z));
-      }
-
   same-units : (q : ℕ) (m : List ℕ) (p : ℕ) (y : ℕ) → unitsOf (joining (placed s k p) q k) y ≡ unitsOf s y
   same-units q m p y =
-      ap (λ (j : ℕ). getD (s .directory .entries) j (record { level = 0; units = 0; flags = 0; point = 0 }) .units)
+      ap (λ (j : ℕ). getD (s .directory .entries) j noEntry .units)
       (field-kept (λ t. t .program) (s .tasks) k y _ noTask refl)
 
   pub ready : (1 ≤ unitsOf s k → taskAt s k .core ≡ 0 → ⊥) → Made s (readied s k) k h e
@@ -195,10 +81,10 @@ module _ {s : State} {k : ℕ} {h : List ℕ} {e : ℕ} (i : InHand s k h e) whe
   ready n =
       record {
         shape =
-            enter-other i Ready 0 0 0 0 (levelOf s k) (queue s (levelOf s k) ++ k ∷ []) (omega (arith, worst)) refl (λ y. count-last k y _)
-            (plain-fields (hand-stands i .fields) (omega arith) (omega arith) (λ z. omega (arith, z)) (λ z. omega (arith, z)) n)
+            enter-other i (moving (taskAt s k) Ready) (levelOf s k) (queue s (levelOf s k) ++ k ∷ []) (omega (arith, worst)) refl (λ y. count-last k y _) refl
+            (plain-fields (hand-stands i .fields) Ready (omega arith) (omega arith) (λ z. omega (arith, z)) (λ z. omega (arith, z)) refl n)
             (omega arith) (λ z. omega (arith, z, worst));
-        frame = framed (levelOf s k) _ _ _ best (omega (arith, worst)) refl refl;
+        frame = framed (readied-ready (λ y. y ≡ k) Lines s s k refl (omega (arith, best, worst)) none);
         stuck = λ level a b. stuck-same {s = s}
             (set-others (s .queues) (levelOf s k) _ (i .shape .sizes .queues) (omega (arith, worst)) (coreQueue level) (λ z. omega (arith, z, worst)))
             refl (same-units (levelOf s k) [] Ready);
@@ -221,9 +107,9 @@ module _ {s : State} {k : ℕ} {h : List ℕ} {e : ℕ} (i : InHand s k h e) whe
       let nine = i .shape .sizes .queues in
       record {
         shape =
-            enter-other i InCore 0 0 0 0 q m (omega (arith, worst)) refl (λ y. count-last k y _)
+            enter-other i (moving (taskAt s k) InCore) q m (omega (arith, worst)) refl (λ y. count-last k y _) refl
             (waiting-fields (hand-stands i .fields) (c .0) (c .1)) (omega arith) (λ z. omega (arith, z, worst));
-        frame = framed q m _ _ (omega (arith, best)) (omega (arith, worst)) refl refl;
+        frame = framed (awaits-ready (λ y. y ≡ k) Lines s s k refl (omega (arith, best, worst)) none);
         stuck = λ level a b g.
             ⊎-elim
             (λ z. record { stuck = λ j l d. rw (same-units q [] InCore j) (first level (z .1) g j l (queue s (coreQueue (levelOf s k))) refl (sym (set-queue (s .queues) q m nine (omega (arith, worst))) ∙ ap (λ (y : ℕ). getD (set (s .queues) q m) (coreQueue y) []) (sym (z .1)) ∙ d)) })
@@ -235,24 +121,6 @@ module _ {s : State} {k : ℕ} {h : List ℕ} {e : ℕ} (i : InHand s k h e) whe
           → 64 ≤ startOf (poolAt s level) (unitsOf s j)
       first level z g j l [] d c = let b : k ≡ j = ap hd c in rw (z, ← b) (f d)
       first level z g j l (a ∷ m) d c = let b : a ≡ j = ap hd c in rw (← b) (g .stuck a m (ap (λ (y : ℕ). queue s (coreQueue y)) z ∙ d))
-
-  granted-frame : Frame s (givenRun s k) k
-  unfolding givenRun
-  granted-frame =
-      record {
-        directory = refl;
-        clock = refl;
-        on = refl;
-        running = refl;
-        channel = refl;
-        requests = refl;
-        tasks = λ y z. getD-set-other (s .tasks) k y _ noTask z;
-        parent = field-kept (λ t. t .parent) (s .tasks) k k _ noTask refl;
-        program = field-kept (λ t. t .program) (s .tasks) k k _ noTask refl;
-        event = refl;
-        time = refl;
-        requested = refl;
-      }
 
   pub granted-core : taskAt (givenRun s k) k .core ≡ 1
   unfolding givenRun
@@ -283,7 +151,7 @@ module _ {s : State} {k : ℕ} {h : List ℕ} {e : ℕ} (i : InHand s k h e) whe
       let r = ready j (λ a b. omega (arith, b, granted-core i)) in
       record {
         shape = r .shape;
-        frame = frame-trans (granted-frame i) (r .frame);
+        frame = framed (seats-ready (λ y. y ≡ k) Lines s s k refl (omega (arith, best i, worst i)) none);
         stuck = λ level a b d u. r .stuck level a b (granted-stuck i level d u);
         waiting = λ level a b. ready-core j level a b ∙ granted-core-queue i level;
       }

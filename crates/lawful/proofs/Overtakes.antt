@@ -32,7 +32,8 @@ use Rattle.lawful.proofs.Queues.{count-cons}
 use Rattle.lawful.proofs.Leave.{leave, stop}
 use Rattle.lawful.proofs.Pendings.{quiet-of}
 use Rattle.lawful.proofs.Clearing.{done-cleared}
-use Rattle.lawful.proofs.Given.{gives-back}
+use Rattle.lawful.proofs.Framed.{frame-requests}
+use Rattle.lawful.proofs.Given.{back-frame, gives-back}
 use Rattle.lawful.proofs.Finish.{grab, parent-low, parent-links}
 use Rattle.lawful.proofs.Unlink.{unlink-rest}
 use Rattle.lawful.proofs.Abort.{aborted-none, aborted-step, upward-zero, alone, child, grabbed, abort-next, starts-abort}
@@ -103,10 +104,10 @@ module _ {s : State} {k : ℕ} {h : List ℕ} {m : List ℕ} (i : InHand s k h 0
   unfolding finished freedDone freedTask
   finished-turns n =
       let back = gives-back (i .shape) t k (i .some) (i .low) in
-      let all = done-cleared (i .some) (back .shape) (back .rest) (λ j p. n j (rw (back .frame .requests) at p)) .clears in
+      let all = done-cleared (i .some) (back .shape) (back .rest) (λ j p. n j (rw (frame-requests (back-frame s k)) at p)) .clears in
       let j : InHand (freedDone (givenBack s k) k) k h 0 = record { some = i .some; low = i .low; out = i .out; shape = all .shape } in
       then-turns (back-turns (i .shape) t k (i .some) (i .low))
-      (then-turns (untouched (all .directory) (all .tasks) (done-queues k (oneTo 16) (givenBack s k)))
+      (then-turns (untouched (ap (λ (x : State). x .directory) (all .others)) (ap (λ (x : State). x .tasks) (all .others)) (done-queues k (oneTo 16) (givenBack s k)))
       (then-turns (parent-turns j) (lost-turns k noTask refl refl refl (λ z. omega (arith, z)))))
 
   ended-turns : Turns s (ended s k)

@@ -1,4 +1,4 @@
--- A task block goes from the hand to a place. The law of one changed block, where core and link stay.
+-- A task block goes from the hand to a place, as any block x that is the same task. The law of one changed block, where core and link stay.
 use mathlib.Core.Bool.{true, false, cond}
 use mathlib.Core.Path.{_≡_, refl, sym, ap, ap₂, _∙_}
 use mathlib.Core.Logic.{_≢_, inl, ⊎-elim}
@@ -12,80 +12,78 @@ use Rattle.threads.proofs.Lists.{tested}
 use Rattle.words.specs.Words.{_among_, upBy}
 use Rattle.image.specs.Directory.{noEntry}
 use Rattle.tables.specs.declared.Task.{Task}
-use Rattle.tables.specs.State.{State, timeQueue, channelQueue, state, taskAt, queue, levelOf}
-use Rattle.tables.specs.Blocks.{Free, Running, InLink, InCheck, Ending, task, noTask}
+use Rattle.tables.specs.State.{State, timeQueue, channelQueue, withRunning, withTask, withQueues, taskAt, queue, levelOf}
+use Rattle.tables.specs.Blocks.{Free, Running, InLink, InCheck, Ending, noTask}
 use Rattle.meaning.specs.Rules.{queueFor}
-use Rattle.lawful.specs.Shape.{one, Hand, placeOf, moduleOf, Fields, Pending, Stands, holding, children, Shape}
+use Rattle.lawful.specs.Shape.{one, Hand, placeOf, Fields, Pending, Stands, holding, children, Shape}
 use Rattle.lawful.proofs.Change.{change, past-hand, core-kept, ranked-kept}
+use Rattle.lawful.proofs.Fields.{SameTask}
 use Rattle.lawful.proofs.Sums.{field-kept, sum-kept}
 use Rattle.lawful.proofs.Shape.{held-place, other-place, out-place, one-other}
 
 -- ---- A task block put into a place.
-module _ (s : State) (k p n v m w : ℕ) where
-  abbrev pub block : Task
-  block = let t = taskAt s k in task p t.program t.parent t.core t.start n v m w
-
+module _ (s : State) (k : ℕ) (x : Task) where
   abbrev pub putting : List (List ℕ) → ℕ → State
-  putting l r =
-      state s.directory s.clock s.on r s.channel s.freeTasks s.freeRequests s.pools (set (s .tasks) k block) s.requests l
+  putting l r = withQueues (withRunning (withTask s k x) r) l
 
-  -- what is asked of the place p, of the queues l that come of it, and of the number r of the task that runs
+  -- what is asked of the block x, of the queues l that come of it, and of the number r of the task that runs
   pub record Puts (l : List (List ℕ)) (r : ℕ) (h : List ℕ) (e e′ : ℕ) : Type 0 where
     pub some : 1 ≤ k
     pub low : k ≤ 24
     pub out : k among h ≡ false
-    pub used : 1 ≤ p
-    pub fields : Fields (s .directory) p block
+    pub same : SameTask (taskAt s k) x
+    pub used : 1 ≤ x .place
+    pub fields : Fields (s .directory) (x .place) x
     pub nine : length l ≡ 9
     pub others : (q y : ℕ) → y ≢ k → count y (getD l q []) ≡ count y (queue s q)
-    pub own : (q : ℕ) → q < 9 → count k (getD l q []) ≡ one (queueFor p (levelOf s k)) q
+    pub own : (q : ℕ) → q < 9 → count k (getD l q []) ≡ one (queueFor (x .place) (levelOf s k)) q
     pub bound : r ≤ 24
-    pub runs : one r k ≡ one p Running
+    pub runs : one r k ≡ one (x .place) Running
     pub run-others : (y : ℕ) → 1 ≤ y → y ≢ k → one r y ≡ one (s .running) y
-    pub checks : p ≡ InCheck → Pending (s .requests) k w
-    pub ends : p ≡ Ending → (i : ℕ) × Pending (s .requests) k i
-    pub links : one p InLink + one k e′ ≡ one k e
+    pub checks : x .place ≡ InCheck → Pending (s .requests) k (x .request)
+    pub ends : x .place ≡ Ending → (i : ℕ) × Pending (s .requests) k i
+    pub links : one (x .place) InLink + one k e′ ≡ one k e
     pub link-others : (y : ℕ) → 1 ≤ y → y ≢ k → one y e′ ≡ one y e
     pub timed : upBy (λ a. taskAt (putting l r) a .time) (getD l timeQueue []) ≡ true
     pub channel : getD l channelQueue [] ≡ queue s channelQueue
 
   module _ {l : List (List ℕ)} {r : ℕ} {h : List ℕ} {e e′ : ℕ} (g : Shape s (k ∷ h) e) (u : Puts l r h e e′) where
-    pub put-same : taskAt (putting l r) k ≡ block
-    put-same = getD-set-same (s .tasks) k block noTask (omega (arith, g .sizes .tasks, u .low))
+    pub put-same : taskAt (putting l r) k ≡ x
+    put-same = getD-set-same (s .tasks) k x noTask (omega (arith, g .sizes .tasks, u .low))
 
     pub put-other : (y : ℕ) → y ≢ k → taskAt (putting l r) y ≡ taskAt s y
-    put-other y d = getD-set-other (s .tasks) k y block noTask d
+    put-other y d = getD-set-other (s .tasks) k y x noTask d
 
-    place-same : placeOf (putting l r) h k ≡ p
+    place-same : placeOf (putting l r) h k ≡ x .place
     place-same = out-place (putting l r) h k (u .out) ∙ ap (λ (t : Task). t .place) put-same
 
     place-other : (y : ℕ) → y ≢ k → placeOf (putting l r) h y ≡ placeOf s (k ∷ h) y
     unfolding placeOf
     place-other y d = ap (λ (t : Task). cond (y among h) Hand (t .place)) (put-other y d) ∙ sym (other-place s h k y d)
 
-    kept : (f : Task → ℕ) → f block ≡ f (taskAt s k) → (y : ℕ) → f (taskAt (putting l r) y) ≡ f (taskAt s y)
-    kept f c y = field-kept f (s .tasks) k y block noTask c
+    kept : (f : Task → ℕ) → f x ≡ f (taskAt s k) → (y : ℕ) → f (taskAt (putting l r) y) ≡ f (taskAt s y)
+    kept f c y = field-kept f (s .tasks) k y x noTask c
 
     pub put-level : (y : ℕ) → levelOf (putting l r) y ≡ levelOf s y
-    put-level y = ap (λ (i : ℕ). getD (s .directory .entries) i noEntry .level) (kept (λ t. t .program) refl y)
+    put-level y = ap (λ (i : ℕ). getD (s .directory .entries) i noEntry .level) (kept (λ t. t .program) (ap (λ (t : Task). t .program) (u .same)) y)
 
     -- the block stands in its place
     put-own : Stands (putting l r) (placeOf (putting l r) h k) k
     put-own =
         rw place-same (record {
           fields = rw put-same (u .fields);
-          queued = λ q z. u .own q z ∙ sym (ap (λ (t : Task). one (queueFor p (moduleOf (s .directory) t .level)) q) put-same);
+          queued = λ q z. u .own q z ∙ sym (ap (λ (i : ℕ). one (queueFor (x .place) i) q) (put-level k));
           runs = u .runs;
           freeTasks =
               g .tasks k (u .some) (u .low) .freeTasks ∙ ap (λ (i : ℕ). one i Free) (held-place s h k)
-              ∙ one-other Hand Free (λ z. omega (arith, z)) ∙ sym (one-other p Free (λ z. omega (arith, z, u .used)));
+              ∙ one-other Hand Free (λ z. omega (arith, z)) ∙ sym (one-other (x .place) Free (λ z. omega (arith, z, u .used)));
           checks = λ z. rw put-same (u .checks z);
           ends = u .ends;
         })
 
-    put-links : (y : ℕ) → 1 ≤ y → y ≤ 24 → children (set (s .tasks) k block) y ≡ one (placeOf (putting l r) h y) InLink + one y e′
+    put-links : (y : ℕ) → 1 ≤ y → y ≤ 24 → children (set (s .tasks) k x) y ≡ one (placeOf (putting l r) h y) InLink + one y e′
     put-links y a b =
-        sum-kept (λ (t : Task). one (t .parent) y) (s .tasks) k block noTask refl
+        sum-kept (λ (t : Task). one (t .parent) y) (s .tasks) k x noTask (ap (λ (t : Task). one (t .parent) y) (u .same))
         ∙ ⊎-elim
         (λ c. ap (children (s .tasks)) (c .1) ∙ g .links k (u .some) (u .low)
         ∙ rw (c .1, place-same, held-place s h k) (omega (arith, u .links, one-other Hand InLink (λ z. omega (arith, z)))))
@@ -96,7 +94,7 @@ module _ (s : State) (k p n v m w : ℕ) where
     pub put : Shape (putting l r) h e′
     unfolding holding
     put =
-        change s k (set (s .tasks) k block) r (s .freeTasks) (s .pools) l g (record {
+        change s k (set (s .tasks) k x) r (s .freeTasks) (s .pools) l g (record {
           some = u .some;
           low = u .low;
           own = put-own;
@@ -106,15 +104,15 @@ module _ (s : State) (k p n v m w : ℕ) where
           queues = u .others;
           runs = u .run-others;
           freeTasks = λ y d. refl;
-          long = length-set (s .tasks) k block ∙ g .sizes .tasks;
+          long = length-set (s .tasks) k x ∙ g .sizes .tasks;
           nine = u .nine;
           four = g .sizes .pools;
           running = u .bound;
           tasksFree = g .blank .freeTasks;
           pool = g .blank .pool;
-          core = core-kept k block (g .core) (λ level i. refl);
+          core = core-kept k x (g .core) (λ level i. ap (holding (s .directory) level i) (u .same));
           links = put-links;
-          ranked = ranked-kept (g .ranked) (λ y b. inl (kept (λ t. t .parent) refl y));
+          ranked = ranked-kept (g .ranked) (λ y b. inl (kept (λ t. t .parent) (ap (λ (t : Task). t .parent) (u .same)) y));
           timed = u .timed;
           channel = u .channel;
         })

@@ -12,6 +12,7 @@ use Rattle.threads.specs.Threads.{Apart}
 use Rattle.threads.proofs.Lists.{tested}
 use Rattle.words.specs.Words.{_implies_}
 use Rattle.tables.specs.declared.Task.{Task}
+use Rattle.tables.specs.declared.Request.{Request}
 use Rattle.tables.specs.Blocks.{Free, noTask}
 use Rattle.tables.specs.State.{State, channelQueue, taskAt, requestAt}
 use Rattle.meaning.specs.Rules.{blankRequest}
@@ -20,7 +21,7 @@ use Rattle.lawful.specs.Shape.{Carried}
 use Rattle.lawful.proofs.Shape.{rest-place}
 use Rattle.lawful.proofs.Truth.{both, and-of, implied, of-implied, not-eq, unlike}
 use Rattle.lawful.proofs.Tests.{set-of, of-set}
-use Rattle.lawful.proofs.Blanks.{requestSum, request-blank, of-request-blank}
+use Rattle.lawful.proofs.Blanks.{request-blank, of-request-blank}
 use Rattle.lawful.proofs.PlaceRules.{channel-others, channel-own, request-placed, only-channel, of-request-placed}
 
 -- "a used request's owner is a used task", of one block
@@ -55,7 +56,7 @@ module _ (s : State) (r : ℕ) (no-task : taskAt s 0 ≡ noTask) (u : Apart (s .
       let l = request-placed s r u p in
       record {
         kind = leb-true (q .place) 3 (a .place);
-        free = λ z. ap requestSum (request-blank q (implied (eqb (q .place) Free) (blankRequest q) c (eq-eqb _ _ z)));
+        free = λ z. request-blank q (implied (eqb (q .place) Free) (blankRequest q) c (eq-eqb _ _ z));
         used = λ z.
             let d = both (leb (q .device) 249 && (eqb (q .command) 13 || eqb (q .command) 14)) (leb 1 (q .bytes)) (w z) in
             let e = both (leb (q .device) 249) (eqb (q .command) 13 || eqb (q .command) 14) (d .0) in
@@ -75,7 +76,7 @@ module _ (s : State) (r : ℕ) (w : Carried s [] r) where
 
   -- a free one has no owner
   pub of-owner-low : requestAt s r .owner ≤ 24
-  of-owner-low = ⊎-elim (λ z. omega (arith, w .free (z .1))) (λ z. w .used (some (z .1)) .1) (tested (requestAt s r .place) 0)
+  of-owner-low = ⊎-elim (λ z. omega (arith, ap (λ (q : Request). q .owner) (w .free (z .1)))) (λ z. w .used (some (z .1)) .1) (tested (requestAt s r .place) 0)
 
   pub of-request-range : requestRange s r ≡ true
   of-request-range =
@@ -92,7 +93,7 @@ module _ (s : State) (r : ℕ) (w : Carried s [] r) where
   pub of-request-clear : requestClear s r ≡ true
   of-request-clear =
       let q = requestAt s r in
-      of-implied (eqb (q .place) Free) (blankRequest q) (λ z. let e = eqb-true (q .place) 0 z in of-request-blank q (omega (arith, e, w .free e)))
+      of-implied (eqb (q .place) Free) (blankRequest q) (λ z. of-request-blank (w .free (eqb-true (q .place) 0 z)))
 
   pub of-carried : length (s .queues) ≡ 9 → requestStands s r ≡ true
   of-carried n = of-request-placed s r n (only-channel s r (w .others) (w .queued)) (w .runs)

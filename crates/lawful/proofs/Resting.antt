@@ -16,6 +16,7 @@ use Rattle.lawful.specs.Resting.{Asleep, Stuck, Rest}
 use Rattle.lawful.proofs.Shape.{one-same}
 use Rattle.lawful.proofs.Queues.{count-cons}
 use Rattle.lawful.proofs.Enter.{hand-count}
+use Rattle.lawful.proofs.Framed.{frame-on, frame-channel}
 use Rattle.lawful.proofs.Made.{Made}
 
 -- s′ is s, but for the block k, which stands in none of the queues that the rules read
@@ -82,8 +83,8 @@ module _ {s s′ : State} {k : ℕ} {h : List ℕ} {e : ℕ} (i : InHand s k h e
       record {
         asleep = λ y c n.
             let f = d .frame in
-            let c′ = rw (f .event) at c in
-            rw (f .tasks y (not-hand eventQueue y (omega arith) c′), f .on) (a .asleep y c′ n);
+            let c′ = rw (f .queues eventQueue (λ z. omega (arith, z))) at c in
+            rw (f .tasks y (not-hand eventQueue y (omega arith) c′), frame-on f) (a .asleep y c′ n);
       }
 
   pub rest-made : {m : List ℕ} → Rest s m → Rest s′ m
@@ -91,5 +92,5 @@ module _ {s s′ : State} {k : ℕ} {h : List ℕ} {e : ℕ} (i : InHand s k h e
       record {
         asleep = asleep-made (r .asleep);
         stuck = λ level lo hi. d .stuck level lo hi (r .stuck level lo hi);
-        flowing = record { flowing = λ x c. d .frame .requested ∙ r .flowing .flowing x (sym (d .frame .channel) ∙ c) };
+        flowing = record { flowing = λ x c. d .frame .queues channelQueue (λ z. omega (arith, z)) ∙ r .flowing .flowing x (sym (frame-channel (d .frame)) ∙ c) };
       }

@@ -11,17 +11,19 @@ use borrow.Author.Tests.{ltb-true, ltb-false}
 use Rattle.threads.specs.Threads.{hd, count, without}
 use Rattle.threads.proofs.Lists.{tested, count-nil, without-at}
 use Rattle.words.specs.Words.{if_then_else_, isEmpty}
-use Rattle.tables.specs.State.{State, eventQueue, channelQueue, coreQueue, taskAt, queue, levelOf, leaving}
+use Rattle.tables.specs.State.{State, eventQueue, channelQueue, coreQueue, queue, levelOf, leaving}
 use Rattle.meaning.specs.Conditions.{enough}
 use Rattle.meaning.specs.Ready.{startFor, fits, needsCore, seated, serving, served}
 use Rattle.lawful.specs.Shape.{Shape, InHand}
 use Rattle.lawful.specs.Resting.{Asleep, Stuck, Flowing, Rest}
 use Rattle.lawful.proofs.Cases.{needs}
+use Rattle.lawful.proofs.Small.{none}
+use Rattle.lawful.proofs.Framed.{Any, Framed, framed, frame-on, frame-channel, served-ready}
 use Rattle.lawful.proofs.Shape.{one-same}
 use Rattle.lawful.proofs.Queues.{set-queue, set-others, count-cons}
 use Rattle.lawful.proofs.Members.{member-stands, member-core}
 use Rattle.lawful.proofs.Enter.{hand-count}
-use Rattle.lawful.proofs.Made.{frame-parents, Seated, seats, asleep-same, stuck-same}
+use Rattle.lawful.proofs.Made.{Seated, seats, asleep-same, stuck-same}
 use Rattle.lawful.proofs.Leave.{leave}
 
 -- the rules of rest, but for who waits for core of the level
@@ -30,25 +32,17 @@ pub record RestBut (s : State) (m : List ℕ) (level : ℕ) : Type 0 where
   pub stuck : (i : ℕ) → 1 ≤ i → i ≤ 3 → i ≢ level → Stuck s i
   pub flowing : Flowing s m
 
--- what serving a level's core queue does not touch
-pub record Served (s s′ : State) (level : ℕ) : Type 0 where
-  pub directory : s′ .directory ≡ s .directory
-  pub clock : s′ .clock ≡ s .clock
-  pub on : s′ .on ≡ s .on
-  pub running : s′ .running ≡ s .running
-  pub channel : s′ .channel ≡ s .channel
-  pub requests : s′ .requests ≡ s .requests
-  pub tasks : (y : ℕ) → count y (queue s (coreQueue level)) ≡ 0 → taskAt s′ y ≡ taskAt s y
-  pub parents : (y : ℕ) → taskAt s′ y .parent ≡ taskAt s y .parent
+-- what serving a level's core queue touches: those that wait in it
+pub served-frame : (s : State) (level : ℕ) → Framed (λ y. 1 ≤ count y (queue s (coreQueue level))) Any s (served s level)
+served-frame s level = framed (served-ready _ _ s s level (λ y c. c) (λ q. refl) none)
 
-pub record Serves (s s′ : State) (level : ℕ) (h : List ℕ) (e : ℕ) (m : List ℕ) : Type 0 where
+pub record Serves (s′ : State) (h : List ℕ) (e : ℕ) (m : List ℕ) : Type 0 where
   pub shape : Shape s′ h e
   pub rest : Rest s′ m
-  pub frame : Served s s′ level
 
 module _ {s : State} {h : List ℕ} {e : ℕ} {level : ℕ} {m : List ℕ} (g : Shape s h e) (r : RestBut s m level) (lo : 1 ≤ level) (hi : level ≤ 3) where
   -- nobody waits
-  serve-none : queue s (coreQueue level) ≡ [] → Serves s s level h e m
+  serve-none : queue s (coreQueue level) ≡ [] → Serves s h e m
   serve-none q =
       record {
         shape = g;
@@ -57,7 +51,6 @@ module _ {s : State} {h : List ℕ} {e : ℕ} {level : ℕ} {m : List ℕ} (g : 
           stuck = λ i a b. ⊎-elim (λ z. record { stuck = λ k l d. absurd (true≢false (ap isEmpty (sym q ∙ ap (λ (x : ℕ). queue s (coreQueue x)) (sym (z .1)) ∙ d))) }) (λ z. r .stuck i a b (z .1)) (tested i level);
           flowing = r .flowing;
         };
-        frame = record { directory = refl; clock = refl; on = refl; running = refl; channel = refl; requests = refl; tasks = λ y c. refl; parents = λ y. refl };
       }
 
   module _ (k : ℕ) (l : List ℕ) (q : queue s (coreQueue level) ≡ k ∷ l) where
@@ -71,7 +64,7 @@ module _ {s : State} {h : List ℕ} {e : ℕ} {level : ℕ} {m : List ℕ} (g : 
     own = let p = member-core g k (coreQueue level) low here (omega arith) (omega arith) .1 in omega (arith, p)
 
     -- the first does not fit
-    serve-stop : 64 ≤ startFor s k → Serves s s level h e m
+    serve-stop : 64 ≤ startFor s k → Serves s h e m
     unfolding startFor
     serve-stop f =
         record {
@@ -88,7 +81,6 @@ module _ {s : State} {h : List ℕ} {e : ℕ} {level : ℕ} {m : List ℕ} (g : 
                 (λ z. r .stuck i a b (z .1)) (tested i level);
             flowing = r .flowing;
           };
-          frame = record { directory = refl; clock = refl; on = refl; running = refl; channel = refl; requests = refl; tasks = λ y c. refl; parents = λ y. refl };
         }
 
     -- the first fits, and is seated
@@ -118,50 +110,31 @@ module _ {s : State} {h : List ℕ} {e : ℕ} {level : ℕ} {m : List ℕ} (g : 
         let ev = others eventQueue (λ z. omega (arith, z)) in
         record {
           asleep =
-              asleep-same {s = s} (d .frame .event ∙ ev) (d .frame .on)
+              asleep-same {s = s} (d .frame .queues eventQueue (λ z. omega (arith, z)) ∙ ev) (frame-on (d .frame))
               (λ y c. d .frame .tasks y (λ z. omega (arith, rw (← ev) at c, hand-count hand eventQueue (omega arith), ap (λ (x : ℕ). count x (queue (leaving s (coreQueue level) k) eventQueue)) z)))
               (r .asleep);
           stuck = λ i a b n.
               d .stuck i a b (λ z. absurd (n (z ∙ own)))
               (stuck-same {s = s} (others (coreQueue i) (λ z. n (omega (arith, z)))) refl (λ y. refl) (r .stuck i a b n));
-          flowing = record { flowing = λ x c. d .frame .requested ∙ others channelQueue (λ z. omega (arith, z)) ∙ r .flowing .flowing x (sym (d .frame .channel) ∙ c) };
+          flowing = record { flowing = λ x c. d .frame .queues channelQueue (λ z. omega (arith, z)) ∙ others channelQueue (λ z. omega (arith, z)) ∙ r .flowing .flowing x (sym (frame-channel (d .frame)) ∙ c) };
         }
 
     pub seat-queue : startFor s k < 64 → queue (seated s (coreQueue level) k) (coreQueue level) ≡ l
     seat-queue f = seat f .waiting level lo hi ∙ gone
 
-    seat-frame : (f : startFor s k < 64) {s′ : State} → Served (seated s (coreQueue level) k) s′ level → Served s s′ level
-    seat-frame f b =
-        let a = seat f .frame in
-        record {
-          directory = b .directory ∙ a .directory;
-          clock = b .clock ∙ a .clock;
-          on = b .on ∙ a .on;
-          running = b .running ∙ a .running;
-          channel = b .channel ∙ a .channel;
-          requests = b .requests ∙ a .requests;
-          parents = λ y. b .parents y ∙ frame-parents a y;
-          tasks = λ y c.
-              let z = sym c ∙ ap (count y) q ∙ count-cons k y l in
-              b .tasks y (ap (count y) (seat-queue f) ∙ omega (arith, z)) ∙ a .tasks y (λ i. omega (arith, z, one-same k y (sym i)));
-        }
-
 -- ---- The loop.
 module _ {h : List ℕ} {e : ℕ} {level : ℕ} {m : List ℕ} (lo : 1 ≤ level) (hi : level ≤ 3) where
-  pub serves : (l : List ℕ) (s : State) → Shape s h e → RestBut s m level → queue s (coreQueue level) ≡ l → Serves s (serving (coreQueue level) l s) level h e m
+  pub serves : (l : List ℕ) (s : State) → Shape s h e → RestBut s m level → queue s (coreQueue level) ≡ l → Serves (serving (coreQueue level) l s) h e m
   unfolding serving fits
   serves [] s g r q = serve-none g r lo hi q
   serves (k ∷ l) s g r q = go (ltb (startFor s k) 64) refl (λ f. serves l (seated s (coreQueue level) k) (seat g r lo hi k l q f .shape) (seat-rest g r lo hi k l q f) (seat-queue g r lo hi k l q f))
     where
       go : (b : Bool) → ltb (startFor s k) 64 ≡ b
-          → (startFor s k < 64 → Serves (seated s (coreQueue level) k) (serving (coreQueue level) l (seated s (coreQueue level) k)) level h e m)
-          → Serves s (if b then serving (coreQueue level) l (seated s (coreQueue level) k) else s) level h e m
-      go true f ih =
-          let a = ltb-true _ _ f in
-          let w = ih a in
-          record { shape = w .shape; rest = w .rest; frame = seat-frame g r lo hi k l q a (w .frame) }
+          → (startFor s k < 64 → Serves (serving (coreQueue level) l (seated s (coreQueue level) k)) h e m)
+          → Serves (if b then serving (coreQueue level) l (seated s (coreQueue level) k) else s) h e m
+      go true f ih = ih (ltb-true _ _ f)
       go false f ih = serve-stop g r lo hi k l q (ltb-false _ _ f)
 
-  pub serve : (s : State) → Shape s h e → RestBut s m level → Serves s (served s level) level h e m
+  pub serve : (s : State) → Shape s h e → RestBut s m level → Serves (served s level) h e m
   unfolding served
   serve s g r = serves (queue s (coreQueue level)) s g r refl

@@ -12,7 +12,7 @@ use borrow.Author.Tests.{leb-false, lt-leb}
 use Rattle.threads.specs.Threads.{count, without}
 use Rattle.threads.proofs.Lists.{tested, count-nil}
 use Rattle.words.specs.Words.{if_then_else_, each, adding, dropping, size}
-use Rattle.tables.specs.State.{State, eventQueue, channelQueue, coreQueue, taskAt, queue, withOn, leaving, state}
+use Rattle.tables.specs.State.{State, eventQueue, channelQueue, coreQueue, taskAt, queue, withOn, leaving}
 use Rattle.calls.specs.declared.Call.{Call}
 use Rattle.meaning.specs.Conditions.{enough}
 use Rattle.meaning.specs.Ready.{madeReady}
@@ -93,7 +93,7 @@ module _ {s : State} {a : ℕ} {l : List ℕ} (w : Walk eventQueue (a ∷ l) s (
           out = λ level lo hi. sym (ap (count a) (set (coreQueue level) (λ z. omega (arith, z)))) ∙ hand-count hand (coreQueue level) (omega arith);
           requested = set channelQueue (λ z. omega (arith, z));
         }) (w .rest)));
-        left = λ y. rw (d .frame .event, gone) (omega (arith, w .left y, count-cons a y l, count-without a y (queue s eventQueue) here));
+        left = λ y. rw (d .frame .queues eventQueue (λ z. omega (arith, z)), gone) (omega (arith, w .left y, count-cons a y l, count-without a y (queue s eventQueue) here));
       }
     where
       -- a waits no more, so that it need not be left out

@@ -14,7 +14,7 @@ use Rattle.words.specs.Rows.{firstOf}
 use Rattle.image.specs.Answer.{refusalOf}
 use Rattle.image.specs.Load.{loadOf}
 use Rattle.tables.specs.declared.Tables.{Tables}
-use Rattle.tables.specs.State.{State, read, tabled}
+use Rattle.tables.specs.State.{State, withQueues, read, tabled}
 use Rattle.calls.specs.Calls.{callOf}
 use Rattle.meaning.specs.Refusals.{refusals}
 use Rattle.meaning.specs.Rules.{pointersSound, stateRules, rulesHold}
@@ -58,20 +58,7 @@ tables-rules t g = and-of _ _ (of-sound (t .threads) (g .pointers)) (rules-all (
 -- ---- A lawful state as tables, and back.
 
 pub read-tabled : {s : State} → Lawful s → read (tabled s) ≡ s
-read-tabled {s} g =
-    ap (λ (l : List (List ℕ)). record {
-      directory = s .directory;
-      clock = s .clock;
-      on = s .on;
-      running = s .running;
-      channel = s .channel;
-      freeTasks = s .freeTasks;
-      freeRequests = s .freeRequests;
-      pools = s .pools;
-      tasks = s .tasks;
-      requests = s .requests;
-      queues = l;
-    }) (read-back (s .queues) (shape-apart (g .shape)))
+read-tabled {s} g = ap (withQueues s) (read-back (s .queues) (shape-apart (g .shape)))
 
 pub tabled-lawful : {s : State} → Lawful s → LawfulTables (tabled s)
 tabled-lawful {s} g =

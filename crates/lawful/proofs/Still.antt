@@ -4,7 +4,7 @@ use mathlib.Core.Path.{_≡_, refl, sym, ap, _∙_}
 use mathlib.Core.List.{List, _∷_}
 use Prim.Native.Nat.{ℕ, _+_, _≤_}
 use Rattle.words.specs.Words.{_among_}
-use Rattle.tables.specs.State.{State, taskAt, state, requestAt}
+use Rattle.tables.specs.State.{State, withClock, withOn, taskAt, requestAt}
 use Rattle.meaning.specs.Channel.{channelLevel}
 use Rattle.tables.specs.Blocks.{InLink}
 use Rattle.lawful.specs.Shape.{one, bit, placeOf, Shape, Hand}
@@ -12,7 +12,7 @@ use Rattle.lawful.proofs.Change.{stands-same}
 use lib.Dec.{eqb}
 
 abbrev pub timed-on : State → ℕ → ℕ → State
-timed-on s c o = state s.directory c o s.running s.channel s.freeTasks s.freeRequests s.pools s.tasks s.requests s.queues
+timed-on s c o = withOn (withClock s c) o
 
 still : {s : State} {h h′ : List ℕ} {e : ℕ} (c o : ℕ) → Shape s h e → ((y : ℕ) → placeOf s h′ y ≡ placeOf s h y) → ((v : ℕ) → bit o v ≤ bit (s .directory .defined) v)
     → Shape (timed-on s c o) h′ e

@@ -29,7 +29,7 @@ module _ {ℓ} {A : Type ℓ} (f : A → ℕ) where
   sum-le (a ∷ l) (suc k) d h = omega (arith, sum-le l k d (le-of-suc-le-suc h))
 
 -- a field that one changed block has as before is as before in every block
-pub field-kept : (f : Task → ℕ) (l : List Task) (k y : ℕ) (x d : Task) → f x ≡ f (getD l k d) → f (getD (set l k x) y d) ≡ f (getD l y d)
+pub field-kept : {A : Type 0} (f : Task → A) (l : List Task) (k y : ℕ) (x d : Task) → f x ≡ f (getD l k d) → f (getD (set l k x) y d) ≡ f (getD l y d)
 field-kept f [] k y x d e = refl
 field-kept f (z ∷ l) zero zero x d e = e
 field-kept f (z ∷ l) zero (suc y) x d e = refl

@@ -10,38 +10,17 @@ use lib.ListN.{length, getD}
 use Rattle.threads.specs.Threads.{count}
 use Rattle.threads.proofs.Lists.{tested}
 use Rattle.words.specs.Words.{upBy}
-use Rattle.image.specs.declared.Directory.{Directory}
-use Rattle.tables.specs.declared.Task.{Task}
-use Rattle.tables.specs.State.{State, timeQueue, channelQueue, state, taskAt, queue}
+use Rattle.tables.specs.State.{State, timeQueue, channelQueue, withRunning, withQueues, taskAt, queue}
 use Rattle.tables.specs.Blocks.{Free, Running, InLink}
 use Rattle.meaning.specs.Rules.{queueFor}
-use Rattle.lawful.specs.Shape.{one, Hand, placeOf, Fields, Stands, Shape}
+use Rattle.lawful.specs.Shape.{one, Hand, placeOf, Stands, Shape}
 use Rattle.lawful.proofs.Change.{change, past-hand}
+use Rattle.lawful.proofs.Fields.{held-fields}
 use Rattle.lawful.proofs.Shape.{held-place, other-place, one-other}
-
-pub held-fields : {d : Directory} {p : ℕ} {t : Task} → Fields d p t → p ≢ Free → Fields d Hand t
-held-fields f n =
-    record {
-      kind = omega arith;
-      place = f .place;
-      free = λ z. absurd (omega (arith, z));
-      program = λ z. f .program n;
-      parent = f .parent;
-      core = f .core;
-      inside = f .inside;
-      start = f .start;
-      unneeded = f .unneeded;
-      waits = λ z. absurd (omega (arith, z));
-      needs = λ a b. omega arith;
-      event = λ a b. absurd (b refl);
-      time = λ a b. absurd (b refl);
-      request = λ a b. absurd (b refl);
-      passes = λ z. absurd (omega (arith, z));
-    }
 
 module _ (s : State) (k : ℕ) where
   abbrev pub taking : List (List ℕ) → ℕ → State
-  taking l r = state s.directory s.clock s.on r s.channel s.freeTasks s.freeRequests s.pools s.tasks s.requests l
+  taking l r = withQueues (withRunning s r) l
 
   pub record Takes (l : List (List ℕ)) (r : ℕ) (h : List ℕ) (e e′ : ℕ) : Type 0 where
     pub some : 1 ≤ k

@@ -1,21 +1,22 @@
 -- The tests of one task block, and its `Fields`: each test is one field, and back.
-use mathlib.Core.Bool.{Bool, true, false, not, _&&_, _||_, true≢false}
+use mathlib.Core.Bool.{Bool, true, false, cond, not, _&&_, _||_, true≢false}
 use mathlib.Core.Path.{_≡_, refl, sym, ap, _∙_}
 use mathlib.Core.Logic.{_≢_}
 use Prim.Native.Nat.{ℕ, _+_, _≤_, _<_}
 use native.Mathlib.Omega.{arith}
 use lib.Bits.{bitAnd}
 use lib.Dec.{eqb, leb, ltb}
-use borrow.Author.Tests.{eqb-true, eq-eqb, leb-true, le-leb, ltb-true, lt-ltb}
+use borrow.Author.Tests.{eqb-true, eq-eqb, ne-eqb, leb-true, le-leb, ltb-true, lt-ltb}
 use Rattle.words.specs.Words.{_implies_, size}
-use Rattle.tables.specs.Blocks.{Free, InCore, InEvent, InTime, InCheck}
+use Rattle.tables.specs.declared.Task.{Task}
+use Rattle.tables.specs.Blocks.{Free, InCore, InEvent, InTime, InCheck, inPlace}
 use Rattle.tables.specs.State.{State, taskAt, unitsOf}
 use Rattle.meaning.specs.Ready.{needsCore}
 use Rattle.meaning.specs.Rules.{taskInRange, blankTask, clearTask}
-use Rattle.lawful.specs.Shape.{Fields}
+use Rattle.lawful.specs.Shape.{cleared, Fields}
 use Rattle.lawful.proofs.Truth.{both, and-of, implied, of-implied, not-eq, unlike, one-of-three}
 use Rattle.lawful.proofs.Cases.{needs, needs-true}
-use Rattle.lawful.proofs.Blanks.{taskSum, task-blank, of-task-blank}
+use Rattle.lawful.proofs.Blanks.{task-blank, of-task-blank}
 
 -- "core waiters still need core, and besides them only event and time waiters may", of one block
 abbrev pub neededAt : State → ℕ → Bool
@@ -29,6 +30,24 @@ pub record Passes (s : State) (k : ℕ) : Type 0 where
   pub some : 1 ≤ taskAt s k .count
   pub most : taskAt s k .count ≤ size (taskAt s k .events)
 
+-- ---- A number that is zero where a test fails.
+meant : (b : Bool) (n : ℕ) → (not b implies eqb n 0) ≡ true → n ≡ cond b n 0
+meant true n e = refl
+meant false n e = eqb-true n 0 e
+
+of-meant : (b : Bool) (n : ℕ) → n ≡ cond b n 0 → (not b implies eqb n 0) ≡ true
+of-meant true n e = refl
+of-meant false n e = eq-eqb n 0 e
+
+meant-both : (b : Bool) (m n : ℕ) → (not b implies (eqb m 0 && eqb n 0)) ≡ true → (m ≡ cond b m 0) × (n ≡ cond b n 0)
+meant-both true m n e = (refl, refl)
+meant-both false m n e = let w = both (eqb m 0) (eqb n 0) e in (eqb-true m 0 (w .0), eqb-true n 0 (w .1))
+
+of-meant-both : (b : Bool) (m n : ℕ) → m ≡ cond b m 0 → n ≡ cond b n 0 → (not b implies (eqb m 0 && eqb n 0)) ≡ true
+of-meant-both true m n e f = refl
+of-meant-both false m n e f = and-of _ _ (eq-eqb m 0 e) (eq-eqb n 0 f)
+
+-- ---- The tests, and what they give.
 module _ (s : State) (k : ℕ) (r : taskInRange (s .directory .modules) (unitsOf s k) (taskAt s k) ≡ true) where
   pub in-range : (taskAt s k .place ≤ 8) × (taskAt s k .parent ≤ 24) × (taskAt s k .core ≤ 2) × (taskAt s k .place ≢ Free → taskAt s k .program < s .directory .modules)
       × (taskAt s k .core ≡ 1 → taskAt s k .start + unitsOf s k ≤ 64) × (taskAt s k .request ≤ 16)
@@ -68,11 +87,10 @@ module _ (s : State) (k : ℕ) (r : taskInRange (s .directory .modules) (unitsOf
       let e = both _ _ (d .0) in
       let f = both _ _ (e .0) in
       let m = both (eqb (t .place) InCore implies needsCore s k) _ n in
-      let w : taskAt s k .place ≢ InEvent → (eqb (taskAt s k .count) 0 ≡ true) × (eqb (taskAt s k .events) 0 ≡ true) = λ z. both (eqb (t .count) 0) (eqb (t .events) 0) (implied (not (eqb (t .place) InEvent)) (eqb (t .count) 0 && eqb (t .events) 0) (d .1) (not-eq _ _ z)) in
+      let w = meant-both (eqb (t .place) InEvent) (t .count) (t .events) (d .1) in
       record {
-        kind = omega (arith, i .0);
         place = i .0;
-        free = λ z. ap taskSum (task-blank t (implied (eqb (t .place) Free) (blankTask t) (f .0) (eq-eqb _ _ z)));
+        free = λ z. task-blank t (implied (eqb (t .place) Free) (blankTask t) (f .0) (eq-eqb _ _ z));
         program = i .3;
         parent = i .1;
         core = i .2;
@@ -81,9 +99,7 @@ module _ (s : State) (k : ℕ) (r : taskInRange (s .directory .modules) (unitsOf
         unneeded = λ z. eqb-true (t .core) 0 (implied (eqb (unitsOf s k) 0) (eqb (t .core) 0) (f .1) (eq-eqb _ _ z));
         waits = λ z. needs-true s k (implied (eqb (t .place) InCore) (needsCore s k) (m .0) (eq-eqb _ _ z));
         needs = λ x y. let o = only x y in (o 1 (λ z. omega (arith, z)) refl, o 2 (λ z. omega (arith, z)) refl, o 6 (λ z. omega (arith, z)) refl, o 7 (λ z. omega (arith, z)) refl, o 8 (λ z. omega (arith, z)) refl);
-        event = λ x y. omega (arith, eqb-true (t .count) 0 (w x .0), eqb-true (t .events) 0 (w x .1));
-        time = λ x y. eqb-true (t .time) 0 (implied (not (eqb (t .place) InTime)) (eqb (t .time) 0) (b .1) (not-eq _ _ x));
-        request = λ x y. eqb-true (t .request) 0 (implied (not (eqb (t .place) InCheck)) (eqb (t .request) 0) (a .1) (not-eq _ _ x));
+        clear = λ n j. inPlace t (t .place) (w .0 j) (w .1 j) (meant (eqb (t .place) InTime) (t .time) (b .1) j) (meant (eqb (t .place) InCheck) (t .request) (a .1) j);
         passes = λ z. (v z .events, v z .some, v z .most);
       }
 
@@ -103,20 +119,22 @@ module _ (s : State) (k : ℕ) (f : Fields (s .directory) (taskAt s k .place) (t
       (of-implied (not (eqb (t .place) Free)) (ltb (t .program) (s .directory .modules)) (λ z. lt-ltb _ _ (f .program (unlike _ _ z)))))
       (of-implied (eqb (t .core) 1) (leb (t .start + unitsOf s k) 64) (λ z. le-leb _ _ (f .inside (eqb-true _ _ z))))
 
-  nine : taskAt s k .place ≢ 9
-  nine z = omega (arith, f .place, z)
+  clear-of : taskAt s k ≡ cleared (taskAt s k .place) (taskAt s k)
+  clear-of = f .clear (λ z. omega (arith, f .place, z))
+
+  pub no-request : taskAt s k .place ≢ InCheck → taskAt s k .request ≡ 0
+  no-request n = ap (λ (t : Task). t .request) clear-of ∙ ap (λ (b : Bool). cond b (taskAt s k .request) 0) (ne-eqb _ InCheck n)
 
   pub of-clear : clearTask (unitsOf s k) (taskAt s k) ≡ true
   of-clear =
       let t = taskAt s k in
       and-of _ _ (and-of _ _ (and-of _ _ (and-of _ _ (and-of _ _
-      (of-implied (eqb (t .place) Free) _ (λ z. of-task-blank t (f .free (eqb-true _ _ z))))
+      (of-implied (eqb (t .place) Free) _ (λ z. of-task-blank (f .free (eqb-true _ _ z))))
       (of-implied (eqb (unitsOf s k) 0) (eqb (t .core) 0) (λ z. eq-eqb _ 0 (f .unneeded (eqb-true _ _ z)))))
       (of-implied (not (eqb (t .core) 1)) (eqb (t .start) 0) (λ z. eq-eqb _ 0 (f .start (unlike _ _ z)))))
-      (of-implied (not (eqb (t .place) InEvent)) (eqb (t .count) 0 && eqb (t .events) 0)
-      (λ z. let w = f .event (unlike _ _ z) nine in and-of _ _ (eq-eqb (t .count) 0 (omega (arith, w))) (eq-eqb (t .events) 0 (omega (arith, w))))))
-      (of-implied (not (eqb (t .place) InTime)) (eqb (t .time) 0) (λ z. eq-eqb _ 0 (f .time (unlike _ _ z) nine))))
-      (of-implied (not (eqb (t .place) InCheck)) (eqb (t .request) 0) (λ z. eq-eqb _ 0 (f .request (unlike _ _ z) nine)))
+      (of-meant-both (eqb (t .place) InEvent) (t .count) (t .events) (ap (λ (x : Task). x .count) clear-of) (ap (λ (x : Task). x .events) clear-of)))
+      (of-meant (eqb (t .place) InTime) (t .time) (ap (λ (x : Task). x .time) clear-of)))
+      (of-meant (eqb (t .place) InCheck) (t .request) (ap (λ (x : Task). x .request) clear-of))
 
   -- by the places that are left
   may : (p : ℕ) → p ≤ 8 → p ≢ Free → (p ≢ 1) × (p ≢ 2) × (p ≢ 6) × (p ≢ 7) × (p ≢ 8) → (eqb p InCore || eqb p InEvent || eqb p InTime) ≡ true

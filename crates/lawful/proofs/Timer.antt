@@ -11,19 +11,20 @@ use lib.Dec.{eqb, leb, ltb}
 use Rattle.threads.specs.Threads.{count, without}
 use Rattle.words.specs.Words.{if_then_else_, each}
 use Rattle.tables.specs.State.{State, eventQueue, timeQueue, channelQueue, coreQueue, readyQueue, taskAt, queue, levelOf, withClock, withRunning, leaving, leading}
-use Rattle.tables.specs.Blocks.{Ready, noTask}
+use Rattle.tables.specs.Blocks.{Ready, noTask, moving}
 use Rattle.calls.specs.declared.Call.{Call}
 use Rattle.meaning.specs.Conditions.{enough}
 use Rattle.meaning.specs.Ready.{madeReady, bestReady}
 use Rattle.meaning.specs.Services.{timely, timer, stopped, dispatchCheck}
 use Rattle.meaning.specs.Rules.{queueFor}
-use Rattle.lawful.specs.Shape.{Shape, InHand}
-use Rattle.lawful.specs.Resting.{Asleep, Rest, Lawful, Settled}
+use Rattle.lawful.specs.Shape.{InHand}
+use Rattle.lawful.specs.Resting.{Asleep, Lawful, Settled}
 use Rattle.lawful.proofs.Shape.{one-same}
 use Rattle.lawful.proofs.Queues.{count-cons, count-without, set-queue, set-others}
 use Rattle.lawful.proofs.Members.{level-best, level-worst, runs-place, runs-stands}
+use Rattle.lawful.proofs.Fields.{plain-fields}
 use Rattle.lawful.proofs.Enter.{hand-stands, hand-count, enter-other}
-use Rattle.lawful.proofs.Made.{made-ready, plain-fields}
+use Rattle.lawful.proofs.Made.{made-ready}
 use Rattle.lawful.proofs.Leave.{leave, stop}
 use Rattle.lawful.proofs.Resting.{rest-beside, rest-made}
 use Rattle.lawful.proofs.Signal.{Walk, rest-on}
@@ -58,7 +59,7 @@ module _ {s : State} {a : ℕ} {l : List ℕ} (w : Walk timeQueue (a ∷ l) s []
           out = λ level lo hi. sym (ap (count a) (set (coreQueue level) (λ z. omega (arith, z)))) ∙ hand-count hand (coreQueue level) (omega arith);
           requested = set channelQueue (λ z. omega (arith, z));
         }) (w .rest));
-        left = λ y. rw (d .frame .time, gone) (omega (arith, w .left y, count-cons a y l, count-without a y (queue s timeQueue) here));
+        left = λ y. rw (d .frame .queues timeQueue (λ z. omega (arith, z)), gone) (omega (arith, w .left y, count-cons a y l, count-without a y (queue s timeQueue) here));
       }
 
   pub walk-tick : Walk timeQueue l (timely a s) []
@@ -118,8 +119,8 @@ module _ {s : State} (g : Lawful s) (n : s .running ≢ 0) where
       let set = set-others (s .queues) level front (g .shape .sizes .queues) (omega (arith, worst)) in
       let ev = set eventQueue (λ z. omega (arith, z, best)) in
       settled
-      (enter-other caller Ready 0 0 0 0 level front (omega (arith, worst)) refl (λ y. omega (arith, count-cons (s .running) y (queue s level)))
-      (plain-fields (hand-stands caller .fields) (omega arith) (omega arith) (λ z. omega (arith, z)) (λ z. omega (arith, z)) (λ a b. w .fields .needs a b .0 (runs-place (g .shape) n)))
+      (enter-other caller (moving (taskAt s (s .running)) Ready) level front (omega (arith, worst)) refl (λ y. omega (arith, count-cons (s .running) y (queue s level))) refl
+      (plain-fields (hand-stands caller .fields) Ready (omega arith) (omega arith) (λ z. omega (arith, z)) (λ z. omega (arith, z)) refl (λ a b. w .fields .needs a b .0 (runs-place (g .shape) n)))
       (omega arith) (λ z. omega (arith, z, worst)))
       (rest-beside {s = withRunning s 0} {k = s .running} (record {
         directory = refl;

@@ -2,15 +2,14 @@
 use mathlib.Core.Bool.{true, not}
 use mathlib.Core.Path.{_≡_, ap}
 use mathlib.Core.Logic.{_≢_, ⊎-elim}
-use Prim.Native.Nat.{ℕ, _+_, _^_, _≤_}
+use Prim.Native.Nat.{ℕ, _^_, _≤_}
 use native.Mathlib.Omega.{arith}
 use lib.Dec.{eqb}
 use borrow.Author.Tests.{eq-eqb, eqb-true, le-leb, lt-ltb, ne-eqb}
 use Rattle.threads.proofs.Lists.{tested}
 use Rattle.words.specs.Words.{_implies_, has}
-use Rattle.tables.specs.declared.Request.{Request}
 use Rattle.tables.specs.Blocks.{Free, InLink, InCheck, Ending}
-use Rattle.tables.specs.State.{State, taskAt, requestAt, poolAt, levelOf}
+use Rattle.tables.specs.State.{State, taskAt, poolAt, levelOf}
 use Rattle.meaning.specs.Conditions.{undefinedIn}
 use Rattle.meaning.specs.Finish.{pendingOf, pending}
 use Rattle.meaning.specs.Rules.{onDefined, tasksInPlace, requestsInPlace, queuesInOrder, coreNeeded, owned, checksPending, endingPending}
@@ -21,9 +20,9 @@ use Rattle.lawful.specs.Resting.{Lawful}
 use Rattle.lawful.proofs.Shape.{one-other, rest-place}
 use Rattle.lawful.proofs.Truth.{and-of, of-implied}
 use Rattle.lawful.proofs.Tests.{to-all, of-set}
-use Rattle.lawful.proofs.Blanks.{taskSum, requestSum, of-task-blank, of-request-blank}
+use Rattle.lawful.proofs.Blanks.{of-task-blank, of-request-blank}
 use Rattle.lawful.proofs.PlaceRules.{of-task-placed}
-use Rattle.lawful.proofs.TaskRules.{neededAt, of-range, of-clear, of-needed}
+use Rattle.lawful.proofs.TaskRules.{neededAt, of-range, no-request, of-clear, of-needed}
 use Rattle.lawful.proofs.RequestRules.{ownedAt, of-request-range, of-request-clear, of-carried, of-freeRequests, of-owned}
 use Rattle.lawful.proofs.CoreRules.{of-core, of-links}
 use Rattle.lawful.proofs.Chains.{of-ranked}
@@ -44,7 +43,7 @@ module _ {s : State} (g : Lawful s) where
   request-low : (k : ℕ) → 1 ≤ k → k ≤ 24 → taskAt s k .request ≤ 16
   request-low k a b =
       let w = stands k a b in
-      ⊎-elim (λ i. w .checks (i .1) .low) (λ i. omega (arith, w .fields .request (i .1) (λ j. omega (arith, j, w .fields .place)))) (tested (taskAt s k .place) InCheck)
+      ⊎-elim (λ i. w .checks (i .1) .low) (λ i. omega (arith, no-request s k (w .fields) (i .1))) (tested (taskAt s k .place) InCheck)
 
   -- "every field in range"
   range : Ranges s
@@ -90,8 +89,8 @@ module _ {s : State} (g : Lawful s) where
       record {
         tasks = to-all (taskClear s) 24 (λ k a b. of-clear s k (stands k a b .fields));
         requests = to-all (requestClear s) 16 (λ r a b. of-request-clear s r (g .shape .requests r a b));
-        task = of-task-blank (taskAt s 0) (ap taskSum (b .block));
-        request = of-request-blank (requestAt s 0) (ap (λ (q : Request). q .place + requestSum q) (b .request));
+        task = of-task-blank (b .block);
+        request = of-request-blank (b .request);
         pool = eq-eqb (poolAt s 0) 0 (b .pool);
       }
 

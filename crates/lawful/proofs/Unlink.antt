@@ -13,13 +13,14 @@ use Rattle.words.specs.Words.{_among_}
 use Rattle.image.specs.Directory.{noEntry}
 use Rattle.tables.specs.declared.Task.{Task}
 use Rattle.tables.specs.State.{State, timeQueue, taskAt, queue, levelOf}
-use Rattle.tables.specs.Blocks.{InLink, task, noTask}
+use Rattle.tables.specs.Blocks.{InLink, noTask, withParent}
 use Rattle.meaning.specs.Conditions.{enough}
 use Rattle.meaning.specs.Rules.{queueFor}
 use Rattle.meaning.specs.Finish.{unlinked}
 use Rattle.lawful.specs.Shape.{one, Hand, placeOf, Stands, holding, children, Shape}
 use Rattle.lawful.specs.Resting.{Rest}
 use Rattle.lawful.proofs.Change.{change, core-kept, ranked-kept}
+use Rattle.lawful.proofs.Fields.{lone-fields}
 use Rattle.lawful.proofs.Queues.{up-same}
 use Rattle.lawful.proofs.Sums.{field-kept, sum-set}
 use Rattle.lawful.proofs.Shape.{one-other, one-sym}
@@ -28,7 +29,7 @@ use Rattle.lawful.proofs.Finish.{ends}
 
 module _ {s : State} {h : List ℕ} {e : ℕ} (g : Shape s h e) (k : ℕ) (some : 1 ≤ k) (low : k ≤ 24) (l : taskAt s k .parent ≡ e) where
   abbrev lone : Task
-  lone = let t = taskAt s k in task t.place t.program 0 t.core t.start t.count t.events t.time t.request
+  lone = withParent (taskAt s k) 0
 
   kept : (f : Task → ℕ) → f lone ≡ f (taskAt s k) → (y : ℕ) → f (taskAt (unlinked s k) y) ≡ f (taskAt s y)
   unfolding unlinked
@@ -54,25 +55,8 @@ module _ {s : State} {h : List ℕ} {e : ℕ} (g : Shape s h e) (k : ℕ) (some 
   unfolding unlinked
   lone-own =
       let w = g .tasks k some low in
-      let f = w .fields in
       rw (lone-place k) (record {
-        fields = rw lone-same (record {
-          kind = f .kind;
-          place = f .place;
-          free = λ z. omega (arith, f .free z);
-          program = f .program;
-          parent = omega arith;
-          core = f .core;
-          inside = f .inside;
-          start = f .start;
-          unneeded = f .unneeded;
-          waits = f .waits;
-          needs = f .needs;
-          event = f .event;
-          time = f .time;
-          request = f .request;
-          passes = f .passes;
-        });
+        fields = rw lone-same (lone-fields (w .fields));
         queued = λ q n. w .queued q n ∙ sym (ap (λ (b : ℕ). one (queueFor (placeOf s h k) b) q) (lone-level k));
         runs = w .runs;
         freeTasks = w .freeTasks;

@@ -11,45 +11,20 @@ use lib.Bits.{bitAnd}
 use Rattle.threads.specs.Threads.{count}
 use Rattle.threads.proofs.Lists.{tested}
 use Rattle.words.specs.Words.{insertedBy, size}
-use Rattle.image.specs.declared.Directory.{Directory}
 use Rattle.image.specs.Directory.{noEntry}
-use Rattle.tables.specs.declared.Task.{Task}
 use Rattle.tables.specs.State.{State, withTask, eventQueue, timeQueue, channelQueue, coreQueue, taskAt, queue, joining}
-use Rattle.tables.specs.Blocks.{awaitingEvents, awaitingTime, InEvent, InTime, noTask, task}
+use Rattle.tables.specs.Blocks.{awaitingEvents, awaitingTime, noTask}
 use Rattle.meaning.specs.Conditions.{inTime, enough}
 use Rattle.meaning.specs.Rules.{queueFor}
-use Rattle.lawful.specs.Shape.{Hand, Fields, Shape, InHand}
+use Rattle.lawful.specs.Shape.{Shape, InHand}
 use Rattle.lawful.specs.Resting.{Rest}
 use Rattle.lawful.proofs.Shape.{one-other}
-use Rattle.lawful.proofs.Put.{block}
-use Rattle.lawful.proofs.Queues.{set-queue, set-others, up-same, up-placed, count-last, count-placed}
-use Rattle.lawful.proofs.Enter.{hand-stands, hand-count, enter, enter-other}
+use Rattle.lawful.proofs.Fields.{event-fields, time-fields}
+use Rattle.lawful.proofs.Queues.{set-queue, set-others, up-placed, count-last, count-placed}
+use Rattle.lawful.proofs.Enter.{hand-stands, hand-count, hand-timed, enter, enter-other}
 use Rattle.lawful.proofs.Resting.{rest-beside}
-use Rattle.lawful.proofs.Made.{put-fields, stuck-same}
+use Rattle.lawful.proofs.Made.{stuck-same}
 use Rattle.lawful.proofs.Sums.{field-kept}
-
-event-fields : {d : Directory} {t : Task} {n v : ℕ} → Fields d Hand t → (bitAnd v (d .defined) ≡ v) × (1 ≤ n) × (n ≤ size v)
-    → Fields d InEvent (task InEvent t.program t.parent t.core t.start n v 0 0)
-event-fields f p =
-    put-fields f (omega arith) (omega arith) (record {
-      waits = λ z. absurd (omega (arith, z));
-      needs = λ i j. omega arith;
-      event = λ i. absurd (i refl);
-      time = λ i. refl;
-      request = λ i. refl;
-      passes = λ z. p;
-    })
-
-time-fields : {d : Directory} {t : Task} {x : ℕ} → Fields d Hand t → Fields d InTime (task InTime t.program t.parent t.core t.start 0 0 x 0)
-time-fields f =
-    put-fields f (omega arith) (omega arith) (record {
-      waits = λ z. absurd (omega (arith, z));
-      needs = λ i j. omega arith;
-      event = λ i. refl;
-      time = λ i. absurd (i refl);
-      request = λ i. refl;
-      passes = λ z. absurd (omega (arith, z));
-    })
 
 module _ {s : State} {k : ℕ} {h : List ℕ} {e : ℕ} (i : InHand s k h e) where
   nine : length (s .queues) ≡ 9
@@ -59,26 +34,26 @@ module _ {s : State} {k : ℕ} {h : List ℕ} {e : ℕ} (i : InHand s k h e) whe
     pub await-event : Shape (joining (withTask s k (awaitingEvents (taskAt s k) n v)) eventQueue k) h e
     unfolding queueFor
     await-event =
-        enter-other i InEvent n v 0 0 eventQueue (queue s eventQueue ++ k ∷ []) (omega arith) refl (λ y. count-last k y _)
+        enter-other i (awaitingEvents (taskAt s k) n v) eventQueue (queue s eventQueue ++ k ∷ []) (omega arith) refl (λ y. count-last k y _) refl
         (event-fields (hand-stands i .fields) p) (omega arith) (λ z. omega (arith, z))
 
     pub event-rest : {m : List ℕ} → enough s n v ≡ false → Rest s m → Rest (joining (withTask s k (awaitingEvents (taskAt s k) n v)) eventQueue k) m
     unfolding enough
     event-rest {m} f r =
         let q = queue s eventQueue ++ k ∷ [] in
-        let same = getD-set-same (s .tasks) k (block s k InEvent n v 0 0) noTask (omega (arith, i .shape .sizes .tasks, i .low)) in
+        let same = getD-set-same (s .tasks) k (awaitingEvents (taskAt s k) n v) noTask (omega (arith, i .shape .sizes .tasks, i .low)) in
         record {
           asleep = record {
             asleep = λ y c d.
                 ⊎-elim
                 (λ z. rw (z .1, same) f)
-                (λ z. rw (getD-set-other (s .tasks) k y (block s k InEvent n v 0 0) noTask (z .1))
+                (λ z. rw (getD-set-other (s .tasks) k y (awaitingEvents (taskAt s k) n v) noTask (z .1))
                 (r .asleep .asleep y (omega (arith, rw (set-queue (s .queues) eventQueue q nine (omega arith)) at c, count-last k y (queue s eventQueue), one-other k y (λ w. z .1 (sym w)))) d))
                 (tested y k);
           };
           stuck = λ level lo hi.
               stuck-same {s = s} (set-others (s .queues) eventQueue q nine (omega arith) (coreQueue level) (λ z. omega (arith, z))) refl
-              (λ y. ap (λ (j : ℕ). getD (s .directory .entries) j noEntry .units) (field-kept (λ t. t .program) (s .tasks) k y (block s k InEvent n v 0 0) noTask refl))
+              (λ y. ap (λ (j : ℕ). getD (s .directory .entries) j noEntry .units) (field-kept (λ t. t .program) (s .tasks) k y (awaitingEvents (taskAt s k) n v) noTask refl))
               (r .stuck level lo hi);
           flowing = record { flowing = λ x c. set-others (s .queues) eventQueue q nine (omega arith) channelQueue (λ z. omega (arith, z)) ∙ r .flowing .flowing x c };
         }
@@ -89,13 +64,9 @@ module _ {s : State} {k : ℕ} {h : List ℕ} {e : ℕ} (i : InHand s k h e) whe
     await-time =
         let key : ℕ → ℕ = λ a. taskAt (withTask s k (awaitingTime (taskAt s k) x)) a .time in
         let l = insertedBy key k (queue s timeQueue) in
-        enter i InTime 0 0 x 0 timeQueue l (omega arith) refl (λ y. count-placed key k y (queue s timeQueue)) (time-fields (hand-stands i .fields)) (omega arith)
-        (rw (set-queue (s .queues) timeQueue l nine (omega arith))
-        (up-placed key k (queue s timeQueue)
-        (up-same key (λ a. taskAt s a .time) (queue s timeQueue)
-        (λ y c. ap (λ (t : Task). t .time) (getD-set-other (s .tasks) k y _ noTask
-        (λ z. omega (arith, c, hand-count i timeQueue (omega arith), ap (λ (w : ℕ). count w (queue s timeQueue)) z))))
-        ∙ i .shape .timed)))
+        enter i (awaitingTime (taskAt s k) x) timeQueue l (omega arith) refl (λ y. count-placed key k y (queue s timeQueue)) refl
+        (time-fields (hand-stands i .fields)) (omega arith)
+        (rw (set-queue (s .queues) timeQueue l nine (omega arith)) (up-placed key k (queue s timeQueue) (hand-timed i (awaitingTime (taskAt s k) x))))
 
     pub time-rest : {m : List ℕ} → Rest s m → Rest (inTime (withTask s k (awaitingTime (taskAt s k) x)) k) m
     unfolding inTime

@@ -16,7 +16,7 @@ use Rattle.image.specs.declared.Directory.{Directory}
 use Rattle.image.specs.Directory.{entryAt}
 use Rattle.tables.specs.declared.Task.{Task}
 use Rattle.tables.specs.declared.Request.{Request}
-use Rattle.tables.specs.Blocks.{Free, Running, Ready, InCore, InEvent, InTime, InLink, InCheck, Ending, Queued, OnChannel, noTask, noRequest}
+use Rattle.tables.specs.Blocks.{Free, Running, Ready, InCore, InEvent, InTime, InLink, InCheck, Ending, Queued, OnChannel, noTask, noRequest, inPlace}
 use Rattle.tables.specs.State.{State, timeQueue, channelQueue, node, taskAt, requestAt, poolAt, queue, levelOf}
 use Rattle.pools.specs.Pools.{run}
 use Rattle.meaning.specs.Rules.{directoryPasses, queueFor}
@@ -48,12 +48,16 @@ Hand = 9
 unfoldable pub placeOf : State → List ℕ → ℕ → ℕ
 placeOf s h y = cond (y among h) Hand (taskAt s y .place)
 
--- ---- One task block: "every field in range", "any field with no meaning in the block's present place, is zero", "core waiters still need core, and
--- besides them only event and time waiters may", "event waiters pass 13 and 14".
+-- "any field with no meaning in the block's present place, is zero": the block t in the place p, with those fields zero
+abbrev pub cleared : ℕ → Task → Task
+cleared p t =
+    inPlace t p (cond (eqb p InEvent) (t .count) 0) (cond (eqb p InEvent) (t .events) 0) (cond (eqb p InTime) (t .time) 0) (cond (eqb p InCheck) (t .request) 0)
+
+-- ---- One task block: "every field in range", "A free block, and any field with no meaning in the block's present place, is zero", "core waiters still need
+-- core, and besides them only event and time waiters may", "event waiters pass 13 and 14".
 pub record Fields (d : Directory) (p : ℕ) (t : Task) : Type 0 where
-  pub kind : p ≤ 9
   pub place : t .place ≤ 8
-  pub free : p ≡ Free → t .place + t .program + t .parent + t .core + t .start + t .count + t .events + t .time + t .request ≡ 0
+  pub free : p ≡ Free → t ≡ noTask
   pub program : p ≢ Free → t .program < d .modules
   pub parent : t .parent ≤ 24
   pub core : t .core ≤ 2
@@ -62,9 +66,7 @@ pub record Fields (d : Directory) (p : ℕ) (t : Task) : Type 0 where
   pub unneeded : moduleOf d t .units ≡ 0 → t .core ≡ 0
   pub waits : p ≡ InCore → (1 ≤ moduleOf d t .units) × (t .core ≡ 0)
   pub needs : 1 ≤ moduleOf d t .units → t .core ≡ 0 → (p ≢ Running) × (p ≢ Ready) × (p ≢ InLink) × (p ≢ InCheck) × (p ≢ Ending)
-  pub event : p ≢ InEvent → p ≢ Hand → t .count + t .events ≡ 0
-  pub time : p ≢ InTime → p ≢ Hand → t .time ≡ 0
-  pub request : p ≢ InCheck → p ≢ Hand → t .request ≡ 0
+  pub clear : p ≢ Hand → t ≡ cleared p t
   pub passes : p ≡ InEvent → (bitAnd (t .events) (d .defined) ≡ t .events) × (1 ≤ t .count) × (t .count ≤ size (t .events))
 
 -- the request r is the task y's, and "queued or on the channel"
@@ -88,7 +90,7 @@ pub record Stands (s : State) (p y : ℕ) : Type 0 where
 -- ---- One request block: "A request block is free, queued, on the channel or done", "a used request's owner is a used task".
 pub record Carried (s : State) (h : List ℕ) (r : ℕ) : Type 0 where
   pub kind : requestAt s r .place ≤ 3
-  pub free : requestAt s r .place ≡ 0 → requestAt s r .owner + requestAt s r .device + requestAt s r .command + requestAt s r .bytes ≡ 0
+  pub free : requestAt s r .place ≡ 0 → requestAt s r ≡ noRequest
   pub used : 1 ≤ requestAt s r .place → (1 ≤ requestAt s r .owner) × (requestAt s r .owner ≤ 24) × (requestAt s r .device ≤ 249) × (13 ≤ requestAt s r .command) × (requestAt s r .command ≤ 14) × (1 ≤ requestAt s r .bytes)
   pub owned : 1 ≤ requestAt s r .place → placeOf s h (requestAt s r .owner) ≢ Free
   pub others : (q : ℕ) → q < 8 → count (node r) (queue s q) ≡ 0

@@ -13,29 +13,12 @@ use Rattle.threads.proofs.Read.{first-of, next-of, walked, gone}
 use Rattle.threads.proofs.Walk.{none-first}
 use Rattle.words.specs.Words.{isEmpty}
 use Rattle.tables.specs.declared.Tables.{Tables}
-use Rattle.tables.specs.State.{State, queue, read, tabled}
+use Rattle.tables.specs.State.{State, queue, read, pointing, tabled}
 use Rattle.tables.specs.Held.{Shows, Fit, Held, Loose}
-
--- the tables t, with other pointers
-abbrev on : Tables → Threads → Tables
-on t x =
-    record {
-      directory = t .directory;
-      clock = t .clock;
-      on = t .on;
-      running = t .running;
-      channel = t .channel;
-      freeTasks = t .freeTasks;
-      freeRequests = t .freeRequests;
-      pools = t .pools;
-      tasks = t .tasks;
-      requests = t .requests;
-      threads = x;
-    }
 
 -- tables that show a state are the tables of it, and so no others show it
 pub shown : {t : Tables} {s : State} → Shows t s → t ≡ tabled s
-shown {t} {s} h = ap (on t) (h .sound .canon) ∙ ap tabled (h .reads)
+shown {t} {s} h = ap (pointing (read t)) (h .sound .canon) ∙ ap tabled (h .reads)
 
 pub shown-once : {t u : Tables} {s : State} → Shows t s → Shows u s → t ≡ u
 shown-once h k = shown h ∙ sym (shown k)

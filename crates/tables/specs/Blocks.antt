@@ -76,25 +76,29 @@ noTask = task Free 0 0 0 0 0 0 0 0
 abbrev pub noRequest : Request
 noRequest = request Free 0 0 0 0
 
--- ---- A task block in a new place: "any field with no meaning in the block's present place, is zero".
+-- ---- A task block in a new place keeps its module, its parent and its core; "any field with no meaning in the block's present place, is zero".
 
 -- a task of the module m, child of q or of none, in no place yet: whoever makes one moves it on at once
 abbrev pub newTask : ℕ → ℕ → Task
 newTask m q = task Free m q NotGranted 0 0 0 0 0
 
+-- in a place, with so many of these events, this time and this request to wait for
+abbrev pub inPlace : Task → ℕ → ℕ → ℕ → ℕ → ℕ → Task
+inPlace t p count events time r = task p t.program t.parent t.core t.start count events time r
+
 -- in a place that gives the last four fields no meaning
 abbrev pub moving : Task → ℕ → Task
-moving t p = task p t.program t.parent t.core t.start 0 0 0 0
+moving t p = inPlace t p 0 0 0 0
 
 -- in the event queue, in the time queue, in CHECK
 abbrev pub awaitingEvents : Task → ℕ → ℕ → Task
-awaitingEvents t count events = task InEvent t.program t.parent t.core t.start count events 0 0
+awaitingEvents t count events = inPlace t InEvent count events 0 0
 
 abbrev pub awaitingTime : Task → ℕ → Task
-awaitingTime t time = task InTime t.program t.parent t.core t.start 0 0 time 0
+awaitingTime t time = inPlace t InTime 0 0 time 0
 
 abbrev pub awaitingRequest : Task → ℕ → Task
-awaitingRequest t r = task InCheck t.program t.parent t.core t.start 0 0 0 r
+awaitingRequest t r = inPlace t InCheck 0 0 0 r
 
 -- ---- A task block where it is, with another parent, or with its core changed; a request block in a new place.
 

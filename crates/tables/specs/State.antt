@@ -2,6 +2,7 @@
 use mathlib.Core.List.{List, [], _∷_, _++_}
 use Prim.Native.Nat.{ℕ, _+_, _-_, _^_}
 use lib.ListN.{set, getD, replicate}
+use Rattle.threads.specs.declared.Threads.{Threads}
 use Rattle.threads.specs.Threads.{QUEUES, queuesOf, threaded, without}
 use Rattle.image.specs.declared.Entry.{Entry}
 use Rattle.image.specs.declared.Directory.{Directory}
@@ -52,9 +53,9 @@ node r = r + taskBlocks
 abbrev pub requestOf : ℕ → ℕ
 requestOf n = n - taskBlocks
 
--- ---- A state from its parts, and with one part changed.
+-- ---- A state with one part changed. Only these few lines name every part.
 
-abbrev pub state : Directory → ℕ → ℕ → ℕ → ℕ → ℕ → ℕ → List ℕ → List Task → List Request → List (List ℕ) → State
+abbrev state : Directory → ℕ → ℕ → ℕ → ℕ → ℕ → ℕ → List ℕ → List Task → List Request → List (List ℕ) → State
 state d c o r h i f p t q l =
     record { directory = d; clock = c; on = o; running = r; channel = h; freeTasks = i; freeRequests = f; pools = p; tasks = t; requests = q; queues = l }
 
@@ -76,21 +77,30 @@ withFreeTasks s x = state s.directory s.clock s.on s.running s.channel x s.freeR
 abbrev pub withFreeRequests : State → ℕ → State
 withFreeRequests s x = state s.directory s.clock s.on s.running s.channel s.freeTasks x s.pools s.tasks s.requests s.queues
 
+abbrev pub withPools : State → List ℕ → State
+withPools s x = state s.directory s.clock s.on s.running s.channel s.freeTasks s.freeRequests x s.tasks s.requests s.queues
+
+abbrev pub withTasks : State → List Task → State
+withTasks s x = state s.directory s.clock s.on s.running s.channel s.freeTasks s.freeRequests s.pools x s.requests s.queues
+
+abbrev pub withRequests : State → List Request → State
+withRequests s x = state s.directory s.clock s.on s.running s.channel s.freeTasks s.freeRequests s.pools s.tasks x s.queues
+
+abbrev pub withQueues : State → List (List ℕ) → State
+withQueues s x = state s.directory s.clock s.on s.running s.channel s.freeTasks s.freeRequests s.pools s.tasks s.requests x
+
+-- with one pool, one block or one queue changed
 abbrev pub withPool : State → ℕ → ℕ → State
-withPool s level x =
-    state s.directory s.clock s.on s.running s.channel s.freeTasks s.freeRequests (set (s .pools) level x) s.tasks s.requests s.queues
+withPool s level x = withPools s (set (s .pools) level x)
 
 abbrev pub withTask : State → ℕ → Task → State
-withTask s k x =
-    state s.directory s.clock s.on s.running s.channel s.freeTasks s.freeRequests s.pools (set (s .tasks) k x) s.requests s.queues
+withTask s k x = withTasks s (set (s .tasks) k x)
 
 abbrev pub withRequest : State → ℕ → Request → State
-withRequest s r x =
-    state s.directory s.clock s.on s.running s.channel s.freeTasks s.freeRequests s.pools s.tasks (set (s .requests) r x) s.queues
+withRequest s r x = withRequests s (set (s .requests) r x)
 
 abbrev pub withQueue : State → ℕ → List ℕ → State
-withQueue s q x =
-    state s.directory s.clock s.on s.running s.channel s.freeTasks s.freeRequests s.pools s.tasks s.requests (set (s .queues) q x)
+withQueue s q x = withQueues s (set (s .queues) q x)
 
 -- ---- What stands in a state.
 
@@ -134,8 +144,9 @@ abbrev pub read : Tables → State
 read t =
     state t.directory t.clock t.on t.running t.channel t.freeTasks t.freeRequests t.pools t.tasks t.requests (queuesOf (t .threads))
 
-abbrev pub tabled : State → Tables
-tabled s =
+-- the tables of a state, with these pointers
+abbrev pub pointing : State → Threads → Tables
+pointing s x =
     record {
       directory = s .directory;
       clock = s .clock;
@@ -147,21 +158,25 @@ tabled s =
       pools = s .pools;
       tasks = s .tasks;
       requests = s .requests;
-      threads = threaded (s .queues);
+      threads = x;
     }
+
+abbrev pub tabled : State → Tables
+tabled s = pointing s (threaded (s .queues))
 
 -- the set of the blocks 1 to n
 abbrev allUpTo : ℕ → ℕ
 allUpTo n = 2 ^ (n + 1) - 2
 
+-- the state of a directory in which nothing is used, with the blocks of two sets free
+abbrev pub unused : Directory → ℕ → ℕ → State
+unused d i f =
+    state d 0 0 0 0 i f (replicate 4 0) (replicate (taskBlocks + 1) noTask) (replicate (requestBlocks + 1) noRequest) (replicate QUEUES [])
+
 -- "A loaded state has no tasks, all events off, clock 0."
 unfoldable pub loaded : Directory → State
-loaded d =
-    state d 0 0 0 0 (allUpTo taskBlocks) (allUpTo requestBlocks) (replicate 4 0) (replicate (taskBlocks + 1) noTask)
-    (replicate (requestBlocks + 1) noRequest) (replicate QUEUES [])
+loaded d = unused d (allUpTo taskBlocks) (allUpTo requestBlocks)
 
 -- "all-zero tables": nothing in them, and no block free
 unfoldable pub allZero : State
-allZero =
-    state noDirectory 0 0 0 0 0 0 (replicate 4 0) (replicate (taskBlocks + 1) noTask) (replicate (requestBlocks + 1) noRequest)
-    (replicate QUEUES [])
+allZero = unused noDirectory 0 0

@@ -7,10 +7,7 @@
 //
 // No byte lies between two fields or behind the last: the order and the widths of the fields see to it, so that equal tables are equal bytes.
 ghost use mathlib.Core.Path.{_≡_};
-ghost use mathlib.Core.List.{[]};
-ghost use lib.ListN.{replicate};
-ghost use Rattle.tables.specs.Blocks.{noTask, noRequest};
-ghost use Rattle.tables.specs.State.{state, tabled, loaded, allZero};
+ghost use Rattle.tables.specs.State.{unused, tabled, loaded, allZero};
 
 pub mod names;
 
@@ -78,7 +75,7 @@ pub fn all_zero() -> Tables
 
 // The tables of a directory in which nothing is used, with the blocks of two sets free.
 fn unused(directory: Directory, freeTasks: u32, freeRequests: u32) -> Tables
-    ensures { λ r. ⌜ r ≡ tabled (state directory 0 0 0 0 freeTasks freeRequests (replicate 4 0) (replicate 25 noTask) (replicate 17 noRequest) (replicate 9 [])) ⌝ }
+    ensures { λ r. ⌜ r ≡ tabled (unused directory freeTasks freeRequests) ⌝ }
 {
     let task = Task {
         events: 0,

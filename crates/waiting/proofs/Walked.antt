@@ -40,7 +40,7 @@ wakes-events =
     record {
       low = omega arith;
       either = λ k s. either-of (enough s (taskAt s k .count) (taskAt s k .events)) (madeReady (leaving s eventQueue k) k) s;
-      stays = λ s s′ k f. f .event;
+      stays = λ s s′ k f. f .queues eventQueue (λ z. omega (arith, z));
     }
 
 wakes-time : Wakes timely timeQueue
@@ -49,7 +49,7 @@ wakes-time =
     record {
       low = omega arith;
       either = λ k s. either-of (leb (taskAt s k .time) (s .clock)) (madeReady (leaving s timeQueue k) k) s;
-      stays = λ s s′ k f. f .time;
+      stays = λ s s′ k f. f .queues timeQueue (λ z. omega (arith, z));
     }
 
 -- of either queue
