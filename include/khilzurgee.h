@@ -15,11 +15,12 @@
        510-511    check: 1 plus the remainder by 65,521 of the sum of
                   (i+1) times byte i, i from 0 to 509
 
-   A station links target/staticlib/libstation.a, which 'rt staticlib station'
-   writes; it has all three functions. A program that needs the image check
-   alone, as the editor, links the small target/staticlib/libimage.a, which
-   'rt staticlib image' writes. Link one of the two and not both: each has the
-   image check. Both are for x86-64 Linux and need nothing but the C library.
+   A station links target/staticlib/libexecutive.a, which
+   'rt staticlib executive' writes; it has all three functions. A program that
+   needs the image check alone, as the editor, links the small
+   target/staticlib/libimage.a, which 'rt staticlib image' writes. Link one of
+   the two and not both: each has the image check. Both are for x86-64 Linux
+   and need nothing but the C library.
 
    The stack: a call was measured to take up to 29,448 bytes of it, a load
    2,168 and the image check 920. 'bench/stack' measures it again, and fails

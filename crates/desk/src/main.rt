@@ -2,7 +2,7 @@
 // With `--explain` each line goes on with the same in words. Where the input cannot be read or the output cannot be written, it says so on standard error,
 // with how many calls were answered.
 //
-// It answers for 'A session in full' of document 01. It keeps one set of tables, which `executive::advance` changes where they lie.
+// It answers for 'A session in full' of document 01. It keeps one set of tables, which `executive::khilzurgee_advance` changes where they lie.
 use calls::Answer;
 use libc::STDERR_FILENO;
 use libc::STDIN_FILENO;
@@ -59,7 +59,7 @@ fn session(image: &[u8], words: bool) {
     }
 }
 
-// The desk loop: it lends the tables to `advance`, call by call. A proved loop has to end, and nothing says that the input does: it counts the calls that it
+// The desk loop: it lends the tables to the executive, call by call. A proved loop has to end, and nothing says that the input does: it counts the calls that it
 // has answered, up to a number that no session reaches.
 fn serve(start: Tables, words: bool) {
     let mut tables = start;
@@ -71,7 +71,7 @@ fn serve(start: Tables, words: bool) {
         if n == 0 {
             break;
         }
-        let answer = executive::advance(&mut tables, &bytes[..n]);
+        let answer = executive::khilzurgee_advance(&mut tables, &bytes[..n]);
         let over = report(call, answer, words, answered);
         if over {
             break;

@@ -1,4 +1,4 @@
 pub mod Begins
 pub mod Broken
-pub mod Lined
+pub mod Lent
 pub mod Unique

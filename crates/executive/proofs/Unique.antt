@@ -1,6 +1,6 @@
--- No second answer: any two results that both meet what a public function of this crate promises are equal, and so are the tables that `advance` leaves.
--- `Post` is the promise itself, as the contract in the source states it. Of `advance`, which is walked by hand, it is the clause in the program logic: from it
--- for two answers follows that they are equal.
+-- No second answer: any two results that both meet what a public function of this crate promises are equal, and so are the tables that two runs leave. `Post`
+-- is the promise itself, as the contract in the source states it. Of `khilzurgee_load` and `khilzurgee_advance`, which are walked by hand, it is the clause in
+-- the program logic: from it for two answers follows that they are equal.
 use mathlib.Core.Path.{_≡_, sym, _∙_}
 use mathlib.Core.List.{List, [], _∷_}
 use Prim.Native.Nat.{ℕ}
@@ -19,7 +19,9 @@ use Rattle.calls.specs.declared.Answer.{Answer}
 use Rattle.calls.proofs.Unique.{one-answer}
 use Rattle.tables.specs.declared.Tables.{Tables}
 use Rattle.words.proofs.Once.{OneAnswer, facts-once}
-use Rattle.executive.proofs.advance as advance
+use Rattle.executive.proofs.khilzurgee_advance as advance
+use Rattle.executive.proofs.khilzurgee_image_check.Reads as check
+use Rattle.executive.proofs.khilzurgee_load as lent-load
 use Rattle.executive.proofs.load.Reads as load
 use Rattle.executive.proofs.line.Reads as line
 use Rattle.executive.proofs.step.Reads as step
@@ -33,6 +35,9 @@ step-only κs given r s end end′ p q = p ∙ sym q
 pub line-only : OneAnswer line.Post
 line-only κs given r s end end′ p q = one-answer r s _ p q
 
+pub check-only : OneAnswer check.Post
+check-only κs given r s end end′ p q = p ∙ sym q
+
 -- an answer and tables that are both fixed
 module _ {M : Type 1} (𝓤 : URA M) (ns : List ℕ) (u : Tables) where
   abbrev Fixed : Answer → Tables → SProp 𝓤
@@ -41,8 +46,15 @@ module _ {M : Type 1} (𝓤 : URA M) (ns : List ℕ) (u : Tables) where
   pub one-of-both : (r s : Answer) (t t′ : Tables) → ent 𝓤 (sep 𝓤 (Fixed r t) (Fixed s t′)) (fact 𝓤 ((r ≡ s) × (t ≡ t′)))
   one-of-both r s t t′ = facts-once 𝓤 (λ p q. (one-answer r s ns (p .0) (q .0), p .1 ∙ sym (q .1)))
 
--- what `advance` promises fixes both; of the parameters at exit, `.0` is the tables that were lent
+-- what the two promise fixes both; of the parameters at exit, `.0` is the tables that were lent
 module _ {M : Type 1} (𝓤 : URA M) (H : Heap 𝓤) (A : Atoms 𝓤) (mem : Memory → SProp 𝓤) (run : Routine → Fun 𝓤) (κs : Lfts 2) (r s : Answer) where
+  module _ (given : Args lent-load.signature κs) (end end′ : AtExit lent-load.ended κs) where
+    abbrev Loaded : Answer → AtExit lent-load.ended κs → SProp 𝓤
+    Loaded x e = lent-load.clauses 𝓤 H A mem run κs given .ensures tt x e
+
+    pub lent-load-only : ent 𝓤 (sep 𝓤 (Loaded r end) (Loaded s end′)) (fact 𝓤 ((r ≡ s) × (now (end .0) ≡ now (end′ .0))))
+    lent-load-only = one-of-both 𝓤 _ _ r s (now (end .0)) (now (end′ .0))
+
   module _ (given : Args advance.signature κs) (end end′ : AtExit advance.ended κs) where
     abbrev Advanced : Answer → AtExit advance.ended κs → SProp 𝓤
     Advanced x e = advance.clauses 𝓤 H A mem run κs given .ensures tt x e

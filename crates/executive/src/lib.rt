@@ -1,15 +1,23 @@
-// The executive: its public face. It loads an image, answers one call at a time, and keeps the tables where they lie.
+// The executive: its public face, for programs in Rattle, C and Rust. It loads an image, answers one call at a time, and keeps the tables where they lie.
 //
 // It answers for what document 01 promises of a load and of a call, whole: every entry takes any bytes and any tables, asks nothing, and states its
-// complete answer and the tables that it leaves.
+// complete answer and the tables that it leaves. The three exported functions are what another language sees; `include/khilzurgee.h` declares them and the
+// layout of the structs. A load and a call each have one function by value, which does all of it, and an exported one that only puts the tables in their place.
 use calls::Answer;
 use image::Outcome;
 use meaning::Step;
 use tables::Tables;
 ghost use mathlib.Core.List.{[], _∷_};
 ghost use mathlib.Core.Path.{_≡_};
+ghost use Rattle.image.specs.Answer.{refusalOf};
 ghost use Rattle.image.specs.Load.{loadOf};
-ghost use Rattle.meaning.specs.Step.{tablesOf, stepOf, lineOf};
+ghost use Rattle.meaning.specs.Step.{tablesOf, stepOf, lineOf, loadLine};
+
+// What is had after a load or a call: the tables, and the three numbers of the answer.
+pub struct After {
+    pub tables: Tables,
+    pub answer: Answer,
+}
 
 // Loads an image from any bytes: the tables to begin with, all zero where it is refused, and the answer, its result M.
 pub fn load(image: &[u8]) -> Step
@@ -49,12 +57,59 @@ pub fn line(given: Step) -> Answer
     calls::numbers(outcome, given.tables.running)
 }
 
+// A load, whole.
+fn after_load(image: &[u8]) -> After
+    ensures { λ r. ⌜ (r .answer .refusal ∷ r .answer .result ∷ r .answer .running ∷ [] ≡ loadLine (now (image .entry)))
+        × (r .tables ≡ tablesOf (now (image .entry))) ⌝ }
+{
+    let begun = load(image);
+    let tables = begun.tables;
+    let answer = line(begun);
+    After {
+        tables: tables,
+        answer: answer,
+    }
+}
+
+// A call, whole.
+fn after_call(t: Tables, call: &[u8]) -> After
+    ensures { λ r. ⌜ (r .answer .refusal ∷ r .answer .result ∷ r .answer .running ∷ [] ≡ lineOf (stepOf t (now (call .entry))))
+        × (r .tables ≡ stepOf t (now (call .entry)) .tables) ⌝ }
+{
+    let next = step(t, call);
+    let tables = next.tables;
+    let answer = line(next);
+    After {
+        tables: tables,
+        answer: answer,
+    }
+}
+
+// The image check: the number by which loading would refuse the bytes, 0 for none.
+#[no_mangle]
+pub extern "C" fn khilzurgee_image_check(bytes: &[u8]) -> u8
+    ensures { λ r. ⌜ r ≡ refusalOf (loadOf (now (bytes .entry)) .outcome) ⌝ }
+{
+    image::khilzurgee_image_check(bytes)
+}
+
+// Loads an image into the tables that are lent, whatever they hold: all zero where it is refused. The answer is refusal, M or 0, 0.
+#[no_mangle]
+pub extern "C" fn khilzurgee_load(t: &mut Tables, image: &[u8]) -> Answer
+    ensures { λ r. ⌜ (r .refusal ∷ r .result ∷ r .running ∷ [] ≡ loadLine (now (image .entry))) × (now (t .exit) ≡ tablesOf (now (image .entry))) ⌝ }
+{
+    let after = after_load(image);
+    *t = after.tables;
+    after.answer
+}
+
 // Answers one call on the tables that are lent, and leaves there the tables of after the call.
-pub fn advance(t: &mut Tables, call: &[u8]) -> Answer
+#[no_mangle]
+pub extern "C" fn khilzurgee_advance(t: &mut Tables, call: &[u8]) -> Answer
     ensures { λ r. ⌜ (r .refusal ∷ r .result ∷ r .running ∷ [] ≡ lineOf (stepOf (now (t .entry)) (now (call .entry))))
         × (now (t .exit) ≡ stepOf (now (t .entry)) (now (call .entry)) .tables) ⌝ }
 {
-    let next = step(*t, call);
-    *t = next.tables;
-    line(next)
+    let after = after_call(*t, call);
+    *t = after.tables;
+    after.answer
 }

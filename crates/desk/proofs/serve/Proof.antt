@@ -41,33 +41,33 @@ use denote.Builtin.{u8, u64}
 use denote.Plain.{Boolean, bool-vals, bool-tells, bool-makes, uint-makes, uint-lawful}
 use denote.Lend.{lends-ref, ref-back}
 use denote.Ref.{RefT, MutRef}
-use denote.Slice.{sliceTy, sliceVal, ShrSlice}
+use denote.Slice.{sliceTy, ShrSlice}
 use denote.Steps.{only, owned, peeks, heard, nothing}
 use denote.Struct.Laws as LL
 use denote.Triple.Statement.{Contract, Triple}
 use denote.Triple.Call.{calls-at}
-use denote.Triple.Clauses.{ensured, lasts}
+use denote.Triple.Clauses.{atExit, ensured, lasts}
 use denote.Triple.Entry.{onEntry}
 use denote.Triple.Spec.{Meets, tripleOf}
 use denote.Triple.Table.{entered, cited}
 use denote.Triple.Walked.{says, Stays, stay-none, walkOf, AllGo, goes-none, Walks, ends-at, walked, walk-meets}
 use denote.Exit.{yes}
-use Rattle.meaning.specs.Step.{stepOf, lineOf}
 use Rattle.tables.specs.declared.Tables.{Tables}
 use Rattle.calls.specs.declared.Answer.{Answer}
 use Rattle.tables.proofs.Tables as T
 use Rattle.tables.proofs.Tables.Laws as T′
+use Rattle.tables.proofs.Lies.{vT, lies-in, lies-out}
 use Rattle.calls.proofs.Answer as N
 use Rattle.calls.proofs.Answer.Laws as N′
-use Rattle.executive.proofs.advance as advance
-use Rattle.executive.proofs.advance.Symbol as advance-def
-use Rattle.executive.proofs.advance.Symbol.{name as #executive·advance}
-use Rattle.executive.proofs.advance.Met as advance-thm
+use Rattle.executive.proofs.Lent.{vS}
+use Rattle.executive.proofs.khilzurgee_advance as advance
+use Rattle.executive.proofs.khilzurgee_advance.Symbol as advance-def
+use Rattle.executive.proofs.khilzurgee_advance.Symbol.{name as #executive·khilzurgee-advance}
+use Rattle.executive.proofs.khilzurgee_advance.Met as advance-thm
 use Rattle.desk.specs.declared.Taken.{Taken}
 use Rattle.desk.proofs.Taken as K
 use Rattle.desk.proofs.Taken.Laws as K′
 use Rattle.desk.proofs.Bytes.{vA, tyA, firsts, Left, lends-bytes, bytes-back}
-use Rattle.pipes.proofs.Lies.{lies-in, lies-out}
 use Rattle.desk.proofs.take as take
 use Rattle.desk.proofs.take.Symbol as take-def
 use Rattle.desk.proofs.take.Symbol.{name as #desk·take}
@@ -81,10 +81,6 @@ use Rattle.desk.proofs.serve as serve
 use Rattle.desk.proofs.serve.Statement as stated
 use Rattle.desk.proofs.serve.Code as code
 use Rattle.desk.proofs.serve.Code.Mir as pieces
-
--- the tables' machine value
-abbrev vT : Tables → Val
-vT = LL.val T.the-type T′.the-laws
 
 abbrev stayed : Stays (serve.ended .signature .params) (serve.ended .kept)
 stayed = (stay-none (λ _. T.the-row) yes, (stay-none (λ _. Boolean) yes, tt))
@@ -239,14 +235,11 @@ module _ {M : Type 1} (𝓤 : URA M) (H : Heap 𝓤) (A : Atoms 𝓤) (W : Given
     abbrev s : RefT (List ℕ)
     s = record { ptr = (p .place, 0); name = p .ε; now = p .sent }
 
-    abbrev v : Val
-    v = sliceVal (p .place, 0) (length (p .sent))
-
     abbrev Slice : Fml
-    Slice = ShrSlice (named 1) (p .μ ∷ []) u8 .own s (v ∷ [])
+    Slice = ShrSlice (named 1) (p .μ ∷ []) u8 .own s (vS s ∷ [])
 
     abbrev to-advance : AdvanceC 𝓤 H A at-mem run .Ghost
-    to-advance = (((p .ν ∷ [], (p .μ ∷ [], tt)), (fullShare, (fullShare, tt)), tt, (x, (s, tt)), (vptr (p .spot) 0 ∷ [], (v ∷ [], tt))), tt)
+    to-advance = (((p .ν ∷ [], (p .μ ∷ [], tt)), (fullShare, (fullShare, tt)), tt, (x, (s, tt)), (vptr (p .spot) 0 ∷ [], (vS s ∷ [], tt))), tt)
 
     abbrev Tokens : Item 𝓤
     Tokens = ‵ (flft (p .ν ∷ []) fullShare) ⊛ ‵ (flft (p .μ ∷ []) fullShare) ⊛ ‵ ftrue
@@ -260,12 +253,14 @@ module _ {M : Type 1} (𝓤 : URA M) (H : Heap 𝓤) (A : Atoms 𝓤) (W : Given
     abbrev AdvanceSaid : Answer → SProp 𝓤
     AdvanceSaid r = ensured 𝓤 H A advance.ended (advance.clauses 𝓤 H A at-mem run) (p .ν ∷ [], (p .μ ∷ [], tt)) (x, (s, tt)) tt r
 
-    -- the last tables, and what is said of them and of the answer
+    -- the last tables, and what is said of them and of the answer, which the loop does not look at
     abbrev Lasts : Tables × (Unit {0} × Unit {0}) → Fml
     Lasts zs = lasts advance.ended (p .ν ∷ [], (p .μ ∷ [], tt)) (x, (s, tt)) zs
 
-    abbrev Stepped : Answer → Tables → Type 0
-    Stepped r z = (r .refusal ∷ r .result ∷ r .running ∷ [] ≡ lineOf (stepOf (p .held) (p .sent))) × (z ≡ stepOf (p .held) (p .sent) .tables)
+    abbrev Promised : Answer → Tables × (Unit {0} × Unit {0}) → SProp 𝓤
+    Promised r zs =
+        advance.clauses 𝓤 H A at-mem run (p .ν ∷ [], (p .μ ∷ [], tt)) (x, (s, tt)) .ensures tt r
+        (atExit advance.ended (p .ν ∷ [], (p .μ ∷ [], tt)) (x, (s, tt)) zs)
 
   -- the call of `report`, where words₀ is what `serve` was passed, after n calls
   module _ (words₀ : Bool) (c : Taken) (r : Answer) (w : Val) (n : ℕ) where
@@ -363,7 +358,7 @@ module _ {M : Type 1} (𝓤 : URA M) (H : Heap 𝓤) (A : Atoms 𝓤) (W : Given
           move ! (2 ∷ 3 ∷ []) $ free1 ! $ free1 ! $ free0 ! $ by ! exits
 
       module _ (fm : FmC 𝓤 H (W .laws) C) (known-take : Triple 𝓤 (C #desk·take) (TakeC 𝓤 H A at-mem run))
-          (known-advance : Triple 𝓤 (C #executive·advance) (AdvanceC 𝓤 H A at-mem run)) (known-report : Triple 𝓤 (C #desk·report) (ReportC 𝓤 H A at-mem run)) where
+          (known-advance : Triple 𝓤 (C #executive·khilzurgee-advance) (AdvanceC 𝓤 H A at-mem run)) (known-report : Triple 𝓤 (C #desk·report) (ReportC 𝓤 H A at-mem run)) where
         -- the end of a turn: `report` is called, and says whether the session is over; if not, one more call was answered
         tells : (y : State) → y .done < 2 ^ 64 - 1 → (c : Taken) → c .count ≤ 16 → Is K.the-row c (vK c ∷ [])
             → (t : Tables) (isT : Is T.the-row t (vT t ∷ [])) (r : Answer) (w : Val)
@@ -401,7 +396,7 @@ module _ {M : Type 1} (𝓤 : URA M) (H : Heap 𝓤) (A : Atoms 𝓤) (W : Given
             (from ! (stop !))
             (init ! 0 refl (tt, (tt, (record { fits = sent-fits c (vK c) is few }, tt)))) $
             -- the tables are lent for ν, and the bytes for μ
-            move ! (20 ∷ 14 ∷ []) $ use1 W (‵ (mem T.the-row .lies (y .held) l₃ 0)) (lies-in T.the-type T′.the-laws T′.the-plain 𝓤 H A W (y .held) l₃ (y .holds)) $
+            move ! (20 ∷ 14 ∷ []) $ use1 W (‵ (mem T.the-row .lies (y .held) l₃ 0)) (lies-in 𝓤 H A W (y .held) l₃ (y .holds)) $
             lft-new ! tt (λ ν. move ! (1 ∷ []) $
             use1 W (later (some (λ (δ : GName). ‵ (RefAt l₃ ν δ (y .held)) ⊛ ‵ (flent (ν ∷ []) (Body (mem T.the-row) l₃ 0 δ)))))
             (lends-ref 𝓤 H A W T.the-row (named 0) (ν ∷ []) (y .held) l₃ 0) $ await ! tt $ pick ! (λ δ. split ! $
@@ -418,7 +413,7 @@ module _ {M : Type 1} (𝓤 : URA M) (H : Heap 𝓤) (A : Atoms 𝓤) (W : Given
             (and-then ! (load ! (from ! (stop !)) (look ! 7 refl)) (and-then ! (load ! (from ! (stop !)) (look ! 3 refl)) (no-more !))) (λ w.
             use1 W (later (some (λ (r : Answer). (Tokens (lent y c ν δ μ ε) ⊛ ‵ (N.the-row .own r (w ∷ []))) ⊛ raw (AdvanceSaid (lent y c ν δ μ ε) r))))
             (id⊢ 𝓤 _) $ await ! tt $ pick ! (λ r. split ! $ move ! (1 ∷ []) $
-            use1 W (some (λ (zs : Tables × (Unit {0} × Unit {0})). ‵ (Lasts (lent y c ν δ μ ε) zs) ⊛ raw (fact 𝓤 (Stepped (lent y c ν δ μ ε) r (zs .0)))))
+            use1 W (some (λ (zs : Tables × (Unit {0} × Unit {0})). ‵ (Lasts (lent y c ν δ μ ε) zs) ⊛ raw (Promised (lent y c ν δ μ ε) r zs)))
             (id⊢ 𝓤 _) $ pick ! (λ zs. split ! $ move ! (1 ∷ []) $ drop ! $ fsplit ! $ move ! (2 ∷ []) $ split ! $ move ! (1 ∷ []) $
             -- [what the answer owns; the tokens; the last tables; …; the bytes' lender's part; the tables'; _13; …; _12; …; _11; …; _10; …; _9; …; _8; …;
             -- _7; …; what frees _6; _5; …; …]
@@ -427,7 +422,7 @@ module _ {M : Type 1} (𝓤 : URA M) (H : Heap 𝓤) (A : Atoms 𝓤) (W : Given
             -- the lifetimes are ended, and the locals are had again
             move ! (1 ∷ []) $ split ! $ lft-end ! tt $ move ! (0 ∷ 6 ∷ 3 ∷ []) $
             use3 W (later (‵ (mem T.the-row .lies (zs .0) l₃ 0))) (ref-back 𝓤 H A W T.the-row (ν ∷ []) δ (zs .0) l₃ 0) $ await ! tt $
-            use1 W (given (Is T.the-row (zs .0) (vT (zs .0) ∷ [])) (‵ (fat fullShare T′.mir l₃ 0 (vT (zs .0))))) (lies-out T.the-type T′.the-laws T′.the-plain 𝓤 H A W (zs .0) l₃) $ learn ! (λ isT.
+            use1 W (given (Is T.the-row (zs .0) (vT (zs .0) ∷ [])) (‵ (fat fullShare T′.mir l₃ 0 (vT (zs .0))))) (lies-out 𝓤 H A W (zs .0) l₃) $ learn ! (λ isT.
             move ! (1 ∷ []) $ split ! $ lft-end ! tt $ move ! (0 ∷ 5 ∷ []) $
             use2 W (later (‵ (froom (tyA 16) l₆ 0))) (bytes-back 16 (c .count) (bytesOf c) (μ ∷ []) l₆ 𝓤 H A W (sixteen c (vK c) is)) $ await ! tt $
             -- [room for _6; …; _3; what the answer owns; …; _13; …; _12; …; _11; …; _10; …; _9; …; _8; …; _7; …; what frees _6; _5; …; _4; …;
@@ -470,7 +465,7 @@ module _ {M : Type 1} (𝓤 : URA M) (H : Heap 𝓤) (A : Atoms 𝓤) (W : Given
         looped y = first ! $ blocks ! $ loops ! 𝓣 Less Less-wf At turns y
 
     module _ (𝓣 : Tabled 𝓤 H) (known-take : Triple 𝓤 (𝓣 .C #desk·take) (TakeC 𝓤 H A at-mem run))
-        (known-advance : Triple 𝓤 (𝓣 .C #executive·advance) (AdvanceC 𝓤 H A at-mem run))
+        (known-advance : Triple 𝓤 (𝓣 .C #executive·khilzurgee-advance) (AdvanceC 𝓤 H A at-mem run))
         (known-report : Triple 𝓤 (𝓣 .C #desk·report) (ReportC 𝓤 H A at-mem run)) where
       walk : ent 𝓤 (onEntry 𝓤 H A serve.signature tt tt (t₀, (words₀, tt)) (vT t₀ ∷ [], (vbool words₀ ∷ [], tt)))
           (WpFn 𝓤 H (𝓣 .C) (𝓣 .Λ) code.function (vT t₀ ∷ vbool words₀ ∷ []) Post)
@@ -487,7 +482,7 @@ module _ {M : Type 1} (𝓤 : URA M) (H : Heap 𝓤) (A : Atoms 𝓤) (W : Given
           (record { done = 0; fits = lit< tt; held = t₀; holds = was })))))))))))))))
 
 module _ {M : Type 1} (𝓤 : URA M) (H : Heap 𝓤) (A : Atoms 𝓤) (W : Given 𝓤 H A) (mem : Memory → SProp 𝓤) (run : Routine → Fun 𝓤) (𝓣 : Tabled 𝓤 H)
-    (known-take : Triple 𝓤 (𝓣 .C #desk·take) (TakeC 𝓤 H A mem run)) (known-advance : Triple 𝓤 (𝓣 .C #executive·advance) (AdvanceC 𝓤 H A mem run))
+    (known-take : Triple 𝓤 (𝓣 .C #desk·take) (TakeC 𝓤 H A mem run)) (known-advance : Triple 𝓤 (𝓣 .C #executive·khilzurgee-advance) (AdvanceC 𝓤 H A mem run))
     (known-report : Triple 𝓤 (𝓣 .C #desk·report) (ReportC 𝓤 H A mem run)) where
   abbrev ran : List Val → (Val → SProp 𝓤) → SProp 𝓤
   ran = WpFn 𝓤 H (𝓣 .C) (𝓣 .Λ) code.function
@@ -510,5 +505,5 @@ serve-spec 𝓤 H 𝓜 𝓖 𝓡 =
     (tables 𝓤 H 𝓜 𝓡 code.env .C) (tables 𝓤 H 𝓜 𝓡 code.env .Λ) #desk·serve code.function (code.unfolded 𝓤 H 𝓜 𝓡)
     (serve-meets 𝓤 H (𝓖 .A) (givenOf 𝓤 H 𝓜 𝓖) (𝓜 .mem) (𝓡 .run) (tablesOf 𝓤 H 𝓜 (tables 𝓤 H 𝓜 𝓡 code.env))
     (cited 𝓤 H (TakeC 𝓤 H (𝓖 .A) (𝓜 .mem) (𝓡 .run)) 𝓜 𝓡 code.env #desk·take take-def.routine code.calls-desk·take (take-thm.met 𝓤 H 𝓜 𝓖 𝓡))
-    (cited 𝓤 H (AdvanceC 𝓤 H (𝓖 .A) (𝓜 .mem) (𝓡 .run)) 𝓜 𝓡 code.env #executive·advance advance-def.routine code.calls-executive·advance (advance-thm.met 𝓤 H 𝓜 𝓖 𝓡))
+    (cited 𝓤 H (AdvanceC 𝓤 H (𝓖 .A) (𝓜 .mem) (𝓡 .run)) 𝓜 𝓡 code.env #executive·khilzurgee-advance advance-def.routine code.calls-executive·khilzurgee-advance (advance-thm.met 𝓤 H 𝓜 𝓖 𝓡))
     (cited 𝓤 H (ReportC 𝓤 H (𝓖 .A) (𝓜 .mem) (𝓡 .run)) 𝓜 𝓡 code.env #desk·report report-def.routine code.calls-desk·report (report-thm.met 𝓤 H 𝓜 𝓖 𝓡)))

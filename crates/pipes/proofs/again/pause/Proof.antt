@@ -47,7 +47,7 @@ use Rattle.libc.proofs.nanosleep as nanosleep
 use Rattle.libc.proofs.nanosleep.Symbol as nanosleep-def
 use Rattle.libc.proofs.nanosleep.Symbol.{name as #libc·nanosleep}
 use Rattle.libc.proofs.nanosleep.Met as nanosleep-thm
-use Rattle.pipes.proofs.Lies.{lies-in}
+use Rattle.words.proofs.Lies.{lies-in}
 use Rattle.pipes.proofs.again.pause.Key.{name as #pipes·pause}
 use Rattle.pipes.proofs.again.pause as pause
 use Rattle.pipes.proofs.again.pause.Statement as stated
