@@ -9,7 +9,8 @@ use borrow.Author.Tests.{eqb-true, eq-eqb}
 use lib.ListN.{getD}
 use Rattle.words.specs.Words.{below, allOf}
 use Rattle.words.proofs.Lists.{and-left, and-right, all-at, all-shown}
-use Rattle.image.specs.Block.{zeroAt, fillersZero}
+use Rattle.sealed.specs.Sealed.{zeroAt}
+use Rattle.image.specs.Block.{fillersZero}
 
 -- bytes 3 to 7, the fourth of each entry, and bytes 272 to 509 are zero
 pub record Clear (b : List ℕ) : Type 0 where

@@ -1,4 +1,3 @@
-pub mod Weights
 pub mod Cases
 pub mod Loads
 pub mod Writes

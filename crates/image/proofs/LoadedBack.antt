@@ -1,26 +1,25 @@
 -- The image of a directory without a fault is good, and spells that directory: its bytes follow the table, and the fields are read from the rows.
 use mathlib.Core.Bool.{true}
-use mathlib.Core.Path.{_≡_, sym, ap, _∙_}
-use mathlib.Core.List.{List, map}
+use mathlib.Core.Path.{_≡_, ap, _∙_}
+use mathlib.Core.List.{List}
 use Prim.Native.Nat.{ℕ, _+_, _*_, _^_, _<_}
 use native.Mathlib.Omega.{arith}
-use lib.ListN.{length, getD, List·getD-append}
-use lib.Seq.{take-at, getD-append-add}
-use Rattle.words.specs.Words.{below}
-use Rattle.words.specs.Bytes.{digit}
+use lib.ListN.{length, getD}
 use Rattle.words.specs.Rows.{firstOf}
 use Rattle.words.proofs.Lists.{listed-at, listed-of}
 use Rattle.words.proofs.Numbers.{number-digits}
+use Rattle.sealed.specs.Sealed.{passes}
+use Rattle.sealed.proofs.Seals.{sealed-at, sealed-passes}
 use Rattle.image.specs.declared.Entry.{Entry}
 use Rattle.image.specs.declared.Directory.{Directory}
-use Rattle.image.specs.Block.{storedCheck, checkOf, fillersZero}
+use Rattle.image.specs.Block.{fillersZero}
 use Rattle.image.specs.Directory.{noEntry, entryAt, directoryRows}
 use Rattle.image.specs.Load.{entryFrom, directoryOf}
 use Rattle.image.specs.Write.{byteOf, bodyOf, imageOf}
 use Rattle.image.proofs.Clear.{clear-shown}
 use Rattle.image.proofs.Loads.{Good}
 use Rattle.image.proofs.Table.{EntryTable, Table, table-of}
-use Rattle.image.proofs.Writes.{check-take, body-length, image-length}
+use Rattle.image.proofs.Writes.{body-length, image-length}
 
 -- ---- What bytes that follow the table spell.
 
@@ -48,33 +47,16 @@ module _ (b : List ℕ) where
 -- ---- The image of a directory.
 
 module _ (d : Directory) where
-  abbrev check : ℕ
-  check = checkOf (bodyOf d)
-
-  abbrev ending : List ℕ
-  ending = map (digit check) (below 2)
-
   image-byte : (i : ℕ) → i < 510 → getD (imageOf d) i 0 ≡ byteOf d i
   unfolding imageOf bodyOf
-  image-byte i l = List·getD-append (bodyOf d) ending 0 i (omega (arith, body-length d)) ∙ listed-at (byteOf d) 510 i 0 l
+  image-byte i l = sealed-at (bodyOf d) (body-length d) i l ∙ listed-at (byteOf d) 510 i 0 l
 
   pub image-table : Table (λ i. getD (imageOf d) i 0) d
   image-table = table-of d (λ i. getD (imageOf d) i 0) image-byte
 
-  image-check : checkOf (imageOf d) ≡ check
+  image-checked : passes (imageOf d) ≡ true
   unfolding imageOf
-  image-check = sym (check-take (imageOf d)) ∙ ap checkOf (take-at (bodyOf d) ending 510 (body-length d))
-
-  check-small : check < 2 ^ 16
-  unfolding checkOf
-  check-small = omega arith
-
-  check-byte : (j : ℕ) → j < 2 → getD (imageOf d) (510 + j) 0 ≡ digit check j
-  unfolding imageOf
-  check-byte j l = rw (body-length d) at (getD-append-add (bodyOf d) ending j 0) ∙ listed-at (digit check) 2 j 0 l
-
-  image-checked : storedCheck (imageOf d) ≡ checkOf (imageOf d)
-  image-checked = number-digits (imageOf d) check 2 510 check-byte check-small ∙ sym image-check
+  image-checked = sealed-passes (bodyOf d) (body-length d)
 
   pub image-good : directoryOf (imageOf d) ≡ d → firstOf (directoryRows d) ≡ 0 → Good (imageOf d)
   image-good same sound =

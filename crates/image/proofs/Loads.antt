@@ -11,10 +11,11 @@ use lib.ListN.{length, getD}
 use lib.Dec.{eqb}
 use Rattle.words.specs.Rows.{Row, _when_, firstOf}
 use Rattle.words.proofs.Rows.{Numbered, none, numbered, row-past, row-here, row-passed, first-stays, first-past, first-none}
+use Rattle.sealed.specs.Sealed.{passes}
 use Rattle.image.specs.declared.Outcome.the-variants.{Accepted}
 use Rattle.image.specs.declared.Directory.{Directory}
 use Rattle.image.specs.declared.Loaded.{Loaded}
-use Rattle.image.specs.Block.{checkOf, storedCheck, fillersZero}
+use Rattle.image.specs.Block.{fillersZero}
 use Rattle.image.specs.Directory.{directoryRows}
 use Rattle.image.specs.Answer.{refusalOf}
 use Rattle.image.specs.Load.{directoryOf, blockRows, loadRows, refusedLoad, loadOf}
@@ -66,7 +67,7 @@ module _ (b : List ℕ) where
 -- An image that no row refuses.
 pub record Good (b : List ℕ) : Type 0 where
   pub long : length b ≡ 512
-  pub checked : storedCheck b ≡ checkOf b
+  pub checked : passes b ≡ true
   pub formed : getD b 0 0 ≡ 1
   pub sound : firstOf (directoryRows (directoryOf b)) ≡ 0
   pub clears : fillersZero b ≡ true
@@ -76,14 +77,14 @@ unfolding loadRows blockRows
 good b e =
     let w = first-none (block-numbered b) (laterRows b) e in
     let one = row-passed 1 (eqb (length b) 512) _ (omega arith) w in
-    let two = row-passed 2 (eqb (storedCheck b) (checkOf b)) _ (omega arith) (one .1) in
+    let two = row-passed 2 (passes b) _ (omega arith) (one .1) in
     let three = row-passed 3 (eqb (getD b 0 0) 1) _ (omega arith) (two .1) in
     let rest = sym (later b w) ∙ e in
     let d = first-none (directory-numbered (directoryOf b)) (lastRow b) rest in
     let seven = row-passed 7 (fillersZero b) [] (omega arith) (sym (last b w d) ∙ e) in
     record {
       long = block-long b w;
-      checked = eqb-true _ _ (two .0);
+      checked = two .0;
       formed = eqb-true _ _ (three .0);
       sound = d;
       clears = seven .0;
@@ -91,7 +92,7 @@ good b e =
 
 block-passes : (b : List ℕ) → Good b → firstOf (blockRows b) ≡ 0
 unfolding blockRows firstOf
-block-passes b g = rw (eq-eqb (length b) 512 (g .long), eq-eqb (storedCheck b) (checkOf b) (g .checked), eq-eqb (getD b 0 0) 1 (g .formed))
+block-passes b g = rw (eq-eqb (length b) 512 (g .long), g .checked, eq-eqb (getD b 0 0) 1 (g .formed))
 
 pub good-passes : (b : List ℕ) → Good b → firstOf (loadRows b) ≡ 0
 good-passes b g = sym (refuses-none b (block-passes b g) (g .sound) (g .clears))

@@ -1,54 +1,29 @@
--- The image of a directory as its bytes come together: those below the check from the front, then the two of the check, which looks at no others.
+-- The image of a directory as its bytes come together, those below the check from the front, and what writing gives.
 use mathlib.Core.Path.{_≡_, refl, sym, ap, ap₂, _∙_}
 use mathlib.Core.Logic.{⊎-elim}
-use mathlib.Core.List.{List, [], _∷_, _++_, map, append-nil}
-use Prim.Native.Nat.{ℕ, zero, suc, _+_, _≤_}
+use mathlib.Core.List.{List, _++_, map, append-nil}
+use Prim.Native.Nat.{ℕ}
 use native.Mathlib.Nat.{eq-zero-or-pos}
 use native.Mathlib.Omega.{arith}
-use lib.ListN.{length, take, drop, set, length-append, drop-of-length-le}
-use lib.Seq.{getD-take, take-length}
+use lib.ListN.{length, take, drop, drop-of-length-le}
+use lib.Seq.{take-length}
 use lib.Dec.{eqb}
 use borrow.Author.Tests.{eqb-true, eq-eqb, ne-eqb}
 use Rattle.words.specs.Rows.{firstOf}
 use Rattle.words.proofs.Lists.{listed-length}
 use Rattle.words.proofs.Rows.{row-past, row-passed}
 use Rattle.words.specs.Words.{below}
-use Rattle.words.specs.Bytes.{digit}
+use Rattle.sealed.specs.Sealed.{sealed}
+use Rattle.sealed.proofs.Seals.{sealed-length}
 use Rattle.image.specs.declared.Outcome.the-variants.{Refused, Accepted}
 use Rattle.image.specs.declared.Directory.{Directory}
 use Rattle.image.specs.Answer.{refusalOf}
 use Rattle.image.specs.Directory.{directoryRows}
-use Rattle.image.specs.Block.{weighted, checkOf}
 use Rattle.image.specs.Write.{byteOf, bodyOf, imageOf, writeRows, Written, writeOf}
 
--- the check looks at the first 510 bytes alone
-weighted-take : (b : List ℕ) (m i : ℕ) → i ≤ m → weighted (take m b) i ≡ weighted b i
-unfolding weighted
-weighted-take b m zero h = refl
-weighted-take b m (suc i) h = rw (weighted-take b m i (omega arith), getD-take m b i 0)
-
-pub check-take : (b : List ℕ) → checkOf (take 510 b) ≡ checkOf b
-unfolding checkOf
-check-take b = rw (weighted-take b 510 510 (omega arith))
-
--- a list with its last two elements put in
-last-two : (out : List ℕ) (n x y : ℕ) → length out ≡ suc (suc n) → set (set out n x) (suc n) y ≡ take n out ++ x ∷ y ∷ []
-last-two [] n x y e = absurd (omega arith)
-last-two (a ∷ []) n x y e = absurd (omega arith)
-last-two (a ∷ b ∷ []) zero x y e = refl
-last-two (a ∷ b ∷ c ∷ l) zero x y e = absurd (omega arith)
-last-two (a ∷ b ∷ l) (suc n) x y e = ap (λ (t : List ℕ). a ∷ t) (last-two (b ∷ l) n x y (omega arith))
-
-two : (f : ℕ → ℕ) → map f (below 2) ≡ f 0 ∷ f 1 ∷ []
-unfolding below
-two f = refl
-
-pub image-made : (d : Directory) (out : List ℕ) (i : ℕ) {check x y : ℕ} → i ≡ 510 → length out ≡ 512 → take i out ≡ map (byteOf d) (below i) → check ≡ checkOf out → x ≡ digit check 0 → y ≡ digit check 1 → set (set out 510 x) 511 y ≡ imageOf d
+pub image-made : (d : Directory) (out : List ℕ) (i : ℕ) {after : List ℕ} → i ≡ 510 → take i out ≡ map (byteOf d) (below i) → after ≡ sealed (take 510 out) → after ≡ imageOf d
 unfolding imageOf bodyOf
-image-made d out i {check} {x} {y} z s e k f g =
-    let body : take 510 out ≡ bodyOf d = rw z at e in
-    let same : check ≡ checkOf (bodyOf d) = k ∙ sym (check-take out) ∙ ap checkOf body in
-    last-two out 510 x y s ∙ ap₂ (λ (l m : List ℕ). l ++ m) body (rw (f, g, same) (sym (two (digit (checkOf (bodyOf d))))))
+image-made d out i z e s = s ∙ ap sealed (rw z at e)
 
 pub body-length : (d : Directory) → length (bodyOf d) ≡ 510
 unfolding bodyOf
@@ -56,8 +31,7 @@ body-length d = listed-length (byteOf d) 510
 
 pub image-length : (d : Directory) → length (imageOf d) ≡ 512
 unfolding imageOf
-image-length d =
-    length-append (bodyOf d) _ ∙ ap₂ (λ (m n : ℕ). m + n) (body-length d) (listed-length (digit (checkOf (bodyOf d))) 2)
+image-length d = sealed-length (bodyOf d) (body-length d)
 
 -- all of one list copied over another that is as long
 pub copied : (image buffer : List ℕ) {after : List ℕ} → after ≡ take (length image) image ++ drop (length image) buffer → length image ≡ 512 → length buffer ≡ 512 → after ≡ image

@@ -1,23 +1,21 @@
--- An image that loading accepts is the image of the directory that it spells: below the check because both follow the table of bytes, then the
--- check itself.
-use mathlib.Core.Path.{_≡_, refl, sym, ap, ap₂, _∙_}
-use mathlib.Core.List.{List, _++_, map}
+-- An image that loading accepts is the image of the directory that it spells: below the check because both follow the table of bytes, and
+-- because a block that passes is sealed.
+use mathlib.Core.Path.{_≡_, refl, sym, ap, _∙_}
+use mathlib.Core.List.{List}
 use Prim.Native.Nat.{ℕ, _+_, _*_, _<_}
 use native.Mathlib.Omega.{arith}
-use lib.ListN.{getD, take, drop, length-drop, take-append-drop}
-use lib.Seq.{length-take-le, getD-take, getD-drop}
-use Rattle.words.specs.Words.{below}
-use Rattle.words.specs.Bytes.{digit}
+use lib.ListN.{getD, take}
+use lib.Seq.{length-take-le, getD-take}
 use Rattle.words.proofs.Lists.{listed-at, listed-of}
 use Rattle.words.proofs.Numbers.{digit-number}
-use Rattle.image.specs.Block.{checkOf}
+use Rattle.sealed.specs.Sealed.{sealed}
+use Rattle.sealed.proofs.Seals.{passes-sealed}
 use Rattle.image.specs.Directory.{noEntry, entryAt}
 use Rattle.image.specs.Load.{entryFrom, directoryOf}
 use Rattle.image.specs.Write.{byteOf, bodyOf, imageOf}
 use Rattle.image.proofs.Clear.{clear-means}
 use Rattle.image.proofs.Loads.{Good}
 use Rattle.image.proofs.Table.{EntryTable, Table, table-of, table-only}
-use Rattle.image.proofs.Writes.{check-take}
 
 entry-at : (b : List ℕ) (m : ℕ) → m < 32 → entryAt (directoryOf b) m ≡ entryFrom b m
 unfolding directoryOf
@@ -65,11 +63,6 @@ module _ (b : List ℕ) (bytes : (k : ℕ) → getD b k 0 < 256) (g : Good b) wh
       listed-of (byteOf (directoryOf b)) (take 510 b) 510 0 (length-take-le 510 b (omega (arith, g .long)))
       (λ i l. byte-same i l ∙ sym (getD-take 510 b i 0 l))
 
-  check-same : map (digit (checkOf b)) (below 2) ≡ drop 510 b
-  check-same =
-      listed-of (digit (checkOf b)) (drop 510 b) 2 0 (length-drop 510 b ∙ omega (arith, g .long))
-      (λ j l. ap (λ (x : ℕ). digit x j) (sym (g .checked)) ∙ digit-number b bytes 2 510 j l ∙ sym (getD-drop 510 b j 0))
-
   pub image-same : imageOf (directoryOf b) ≡ b
   unfolding imageOf
-  image-same = ap₂ (λ (l m : List ℕ). l ++ m) body-same (rw (body-same, check-take b) check-same) ∙ take-append-drop 510 b
+  image-same = ap sealed body-same ∙ passes-sealed b (g .long) bytes (g .checked)

@@ -7,11 +7,12 @@ use lib.Dec.{eqb}
 use Rattle.words.specs.Words.{if_then_else_, below}
 use Rattle.words.specs.Bytes.{number}
 use Rattle.words.specs.Rows.{Row, _when_, firstOf}
+use Rattle.sealed.specs.Sealed.{passes}
 use Rattle.image.specs.declared.Entry.{Entry}
 use Rattle.image.specs.declared.Directory.{Directory}
 use Rattle.image.specs.declared.Loaded.{Loaded}
 use Rattle.image.specs.Answer.{outcomeOf}
-use Rattle.image.specs.Block.{checkOf, storedCheck, fillersZero}
+use Rattle.image.specs.Block.{fillersZero}
 use Rattle.image.specs.Directory.{noDirectory, directoryRows}
 
 -- "16-271 | 32 entries of 8: level, core units .., flags .., zero, entry point in 4 bytes": the entry of module m
@@ -28,7 +29,7 @@ directoryOf b =
 -- "Load refusals: 1 length not 512; 2 check; 3 form;"
 unfoldable pub blockRows : List ℕ → List Row
 blockRows b =
-    1 when (not (eqb (length b) 512)) ∷ 2 when (not (eqb (storedCheck b) (checkOf b))) ∷ 3 when (not (eqb (getD b 0 0) 1)) ∷ []
+    1 when (not (eqb (length b) 512)) ∷ 2 when (not (passes b)) ∷ 3 when (not (eqb (getD b 0 0) 1)) ∷ []
 
 -- "4 M; 5 N; 6 a used entry with a bad level, units or flags; 7 a byte that has to be zero isn't": in an unused entry, or where no field is
 unfoldable pub loadRows : List ℕ → List Row

@@ -1,17 +1,17 @@
 -- Document 01, 'Phase image': writing. "Writing takes a directory and a lent buffer."
 use mathlib.Core.Bool.{not}
-use mathlib.Core.List.{List, _∷_, _++_, map}
-use Prim.Native.Nat.{ℕ, _+_, _-_, _/_, _%_, _<_}
+use mathlib.Core.List.{List, _∷_, map}
+use Prim.Native.Nat.{ℕ, _-_, _/_, _%_, _<_}
 use lib.ListN.{length}
 use lib.Dec.{eqb, ltb}
 use Rattle.words.specs.Words.{if_then_else_, below}
 use Rattle.words.specs.Bytes.{digit}
 use Rattle.words.specs.Rows.{Row, _when_, firstOf}
+use Rattle.sealed.specs.Sealed.{sealed}
 use Rattle.image.specs.declared.Outcome.{Outcome}
 use Rattle.image.specs.declared.Entry.{Entry}
 use Rattle.image.specs.declared.Directory.{Directory}
 use Rattle.image.specs.Answer.{outcomeOf}
-use Rattle.image.specs.Block.{checkOf}
 use Rattle.image.specs.Directory.{entryAt, directoryRows}
 
 -- "level, core units .., flags .., zero, entry point in 4 bytes": byte j of an entry
@@ -39,7 +39,7 @@ unfoldable pub bodyOf : Directory → List ℕ
 bodyOf d = map (byteOf d) (below 510)
 
 unfoldable pub imageOf : Directory → List ℕ
-imageOf d = bodyOf d ++ map (digit (checkOf (bodyOf d))) (below 2)
+imageOf d = sealed (bodyOf d)
 
 -- "It refuses by 1, 4, 5, 6, 7 in that order"
 unfoldable pub writeRows : Directory → List ℕ → List Row

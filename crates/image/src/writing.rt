@@ -62,8 +62,6 @@ pub fn image(d: Directory) -> [u8; 512]
         out[i] = byte(d, i);
         i += 1;
     }
-    let check = crate::block::check(&out);
-    out[510] = words::digit(check, 0);
-    out[511] = words::digit(check, 1);
+    sealed::seal(&mut out);
     out
 }

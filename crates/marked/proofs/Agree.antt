@@ -10,7 +10,8 @@ use Rattle.words.specs.Words.{_among_, below, oneTo, someOf, allOf, howMany, sa
 use Rattle.words.proofs.Lists.{map-append}
 use Rattle.words.specs.Bytes.{number}
 use Rattle.words.specs.Rows.{firstOf}
-use Rattle.image.specs.Block.{weighted, checkOf, fillersZero}
+use Rattle.sealed.specs.Sealed.{weighted, checkOf}
+use Rattle.image.specs.Block.{fillersZero}
 use Rattle.image.specs.Directory as directories
 use Rattle.image.specs.Load as loads
 use Rattle.tables.specs.State.{loaded, allZero}

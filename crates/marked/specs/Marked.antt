@@ -3,7 +3,7 @@ use mathlib.Core.Path.{_≡_}
 use mathlib.Core.List.{List, [], _∷_, _++_, map}
 use Prim.Native.Nat.{ℕ}
 use lib.ListN.{take, replicate}
-use Rattle.image.specs.Block.{checkOf}
+use Rattle.sealed.specs.Sealed.{checkOf}
 use Rattle.tables.specs.State.{State, withClock, loaded, tabled}
 use Rattle.calls.specs.Calls.{callOf}
 use Rattle.meaning.specs.Ready.{dispatched}

@@ -1,4 +1,4 @@
--- `writing::image` meets its contract: the loop fills the bytes below the check from the front, `fill-next`, and the check is of them alone.
+-- `writing::image` meets its contract: the loop fills the bytes below the check from the front, `fill-next`, and they are sealed.
 use mathlib.Core.Path.{_≡_, refl}
 use mathlib.Core.List.{[], _∷_, map}
 use Prim.Native.Nat.{_-_, _≤_}
@@ -40,26 +40,16 @@ loop-again c = (
   fill-next (byteOf (c .before .before .before .args .d)) (c .before .before .loop .out) (c .before .before .loop .i) (c .byte .result) (omega (arith, c .before .before .loop .inv .1)) (c .before .before .loop .inv .2) (c .byte .ensures),
 )
 
-slice-aggregate-check : tie.Need-slice-aggregate-check Inv-loop μ-loop
-slice-aggregate-check c = search needs
+slice-aggregate-seal : tie.Need-slice-aggregate-seal Inv-loop μ-loop
+slice-aggregate-seal c = search needs
 
-check-requires : tie.Need-check-requires Inv-loop μ-loop
-check-requires c κs = search needs
-
-digit-requires : tie.Need-digit-requires Inv-loop μ-loop
-digit-requires c κs = search needs
-
-array-write-out-2 : tie.Need-array-write-out-2 Inv-loop μ-loop
-array-write-out-2 c = search needs
-
-digit-requires-2 : tie.Need-digit-requires-2 Inv-loop μ-loop
-digit-requires-2 c κs = search needs
-
-array-write-out-3 : tie.Need-array-write-out-3 Inv-loop μ-loop
-array-write-out-3 c = search needs
+seal-requires : tie.Need-seal-requires Inv-loop μ-loop
+seal-requires c κs = search needs
 
 returns : tie.Need-returns Inv-loop μ-loop
-returns c = image-made (c .before .before .before .before .before .before .args .d) (c .before .before .before .before .before .loop .out) (c .before .before .before .before .before .loop .i) (search needs) (c .before .before .before .before .before .loop .inv .1) (c .before .before .before .before .before .loop .inv .2) (c .before .before .check .ensures) (c .before .digit .ensures) (c .digit2 .ensures)
+returns c =
+    let l = c .before .before .before .before in
+    image-made (l .before .args .d) (l .loop .out) (l .loop .i) (search needs) (l .loop .inv .2) (c .before .seal .ensures)
 
 pub image-spec : {M : Type 1} → statement M
 image-spec =
@@ -73,10 +63,6 @@ image-spec =
     add-i
     loop-less
     loop-again
-    slice-aggregate-check
-    check-requires
-    digit-requires
-    array-write-out-2
-    digit-requires-2
-    array-write-out-3
+    slice-aggregate-seal
+    seal-requires
     returns)

@@ -1,12 +1,12 @@
--- `block::check` meets its contract: the loop gathers the weighted sum, `Summed`.
+-- `check` meets its contract: the loop gathers the weighted sum, `Summed`.
 use mathlib.Core.Path.{_≡_}
 use Prim.Native.Nat.{_-_}
 use native.Mathlib.Omega.{arith}
 use borrow.Author.Needs.{needs}
-use Rattle.image.specs.Block.{checkOf}
-use Rattle.image.proofs.Weights.{Summed, summed-start, summed-next}
-use Rattle.image.proofs.block.check.Statement.{statement}
-use Rattle.image.proofs.block.check.Tie as tie
+use Rattle.sealed.specs.Sealed.{checkOf}
+use Rattle.sealed.proofs.Weights.{Summed, summed-start, summed-next}
+use Rattle.sealed.proofs.check.Statement.{statement}
+use Rattle.sealed.proofs.check.Tie as tie
 
 abbrev Inv-loop : tie.InvT-loop
 Inv-loop bytes sum₀ i₀ sum i = Summed bytes i sum

@@ -1,9 +1,9 @@
--- `block::weight` meets its contract: 510 times 255 is 130,050.
+-- `weight` meets its contract: 510 times 255 is 130,050.
 use native.Mathlib.Omega.{arith}
 use borrow.Author.Needs.{needs}
-use Rattle.image.proofs.Weights.{weight-low}
-use Rattle.image.proofs.block.weight.Statement.{statement}
-use Rattle.image.proofs.block.weight.Tie as tie
+use Rattle.sealed.proofs.Weights.{weight-low}
+use Rattle.sealed.proofs.weight.Statement.{statement}
+use Rattle.sealed.proofs.weight.Tie as tie
 
 cast-result : tie.Need-cast-result
 cast-result c = search needs

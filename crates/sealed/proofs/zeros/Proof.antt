@@ -1,14 +1,18 @@
--- `block::zeros` meets its contract: the loop gathers the test, `gather-next`.
+-- `zeros` meets its contract: the loop gathers the test, `gather-next`.
 use mathlib.Core.Path.{_≡_, refl}
-use Prim.Native.Nat.{_+_, _-_, _*_, _≤_}
+use Prim.Native.Nat.{ℕ, suc, _+_, _-_, _*_, _≤_, _<_}
+use native.Mathlib.Nat.{mul-suc, mul-le-mul-left}
 use native.Mathlib.Omega.{arith}
 use borrow.Author.Needs.{needs}
 use Rattle.words.specs.Words.{below, allOf}
 use Rattle.words.proofs.Lists.{gather-start, gather-next, gather-end}
-use Rattle.image.specs.Block.{zeroAt}
-use Rattle.image.proofs.Weights.{stride}
-use Rattle.image.proofs.block.zeros.Statement.{statement}
-use Rattle.image.proofs.block.zeros.Tie as tie
+use Rattle.sealed.specs.Sealed.{zeroAt}
+use Rattle.sealed.proofs.zeros.Statement.{statement}
+use Rattle.sealed.proofs.zeros.Tie as tie
+
+-- places that are `step` apart: the next is no further than the end
+stride : (step : ℕ) {i count : ℕ} → i < count → step * i + step ≤ step * count
+stride step {i} {count} l = omega (arith, mul-suc step i, mul-le-mul-left {m = suc i} {n = count} step l)
 
 abbrev Inv-loop : tie.InvT-loop
 Inv-loop bytes from step count all₀ i₀ all i = (i ≤ count) × (all ≡ allOf (λ j. zeroAt bytes (from + step * j)) (below i))

@@ -1,12 +1,12 @@
 -- The weighted sum of a block's bytes, as a loop gathers it: what one byte adds is small, so that the sum fits in 32 bits.
 use mathlib.Core.Path.{_≡_, refl}
 use mathlib.Core.List.{List}
-use Prim.Native.Nat.{ℕ, suc, _+_, _*_, _≤_, _<_}
-use native.Mathlib.Nat.{mul-suc, mul-le-mul, mul-le-mul-left}
+use Prim.Native.Nat.{ℕ, _+_, _*_, _≤_, _<_}
+use native.Mathlib.Nat.{mul-le-mul}
 use native.Mathlib.Numerals.{add-one}
 use native.Mathlib.Omega.{arith}
 use lib.ListN.{getD}
-use Rattle.image.specs.Block.{weighted}
+use Rattle.sealed.specs.Sealed.{weighted}
 
 -- i turns are done, and `sum` has the bytes so far
 pub record Summed (b : List ℕ) (i sum : ℕ) : Type 0 where
@@ -24,7 +24,3 @@ weight-low i byte l h = mul-le-mul {n₂ = 510} {m₂ = 255} (omega arith) (omeg
 pub summed-next : {b : List ℕ} {i sum : ℕ} → Summed b i sum → i < 510 → (w : ℕ) → w ≡ (i + 1) * getD b i 0 → w ≤ 130050 → Summed b (i + 1) (sum + w)
 unfolding weighted
 summed-next {b} {i} {sum} s l w e h = record { within = omega arith; sums = rw (add-one i, e, s .sums); low = omega (arith, s .low) }
-
--- places that are `step` apart: the next is no further than the end
-pub stride : (step : ℕ) {i count : ℕ} → i < count → step * i + step ≤ step * count
-stride step {i} {count} l = omega (arith, mul-suc step i, mul-le-mul-left {m = suc i} {n = count} step l)
