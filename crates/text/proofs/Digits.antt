@@ -12,8 +12,8 @@ use lib.Seq.{drop-cons}
 use borrow.Author.Tests.{leb-true, leb-false, ltb-true, le-leb, lt-leb}
 use Rattle.words.specs.Words.{if_then_else_, allOf}
 use Rattle.words.proofs.Lists.{and-left}
-use Rattle.text.specs.Decimals.{isDigit, allDigits, valueFrom, valueOf, atMost}
-use Rattle.text.specs.declared.decimals.Number.the-variants.{Value, Large}
+use Rattle.text.specs.Decimals.{isDigit, allDigits, valueFrom, valueOf, atMost, numberOf}
+use Rattle.text.specs.declared.decimals.Number.the-variants.{Value, Large, Other}
 
 pub empty : (l : List ℕ) → length l ≡ 0 → l ≡ []
 empty [] e = refl
@@ -96,3 +96,14 @@ module _ {l : List ℕ} {most v i : ℕ} (k : Counting l most v i) where
   count-end past =
       let whole : valueOf l ≡ v = k .rest ∙ rw (none-left l i past) refl in
       rw (whole, le-leb v most (k .low)) refl
+
+-- ---- A number that is read is at most `most`.
+
+low-where : (all fits : Bool) (v x most : ℕ) → (fits ≡ true → x ≤ most) → Value v ≡ (if all then (if fits then Value x else Large) else Other) → v ≤ most
+low-where true true v x most low e = let same : v ≡ x = cc in omega (arith, low refl)
+low-where true false v x most low e = let z : _≡_ {A = ℕ} 0 1 = cc in absurd (omega arith)
+low-where false fits v x most low e = let z : _≡_ {A = ℕ} 0 1 = cc in absurd (omega arith)
+
+pub value-low : (l : List ℕ) (most v : ℕ) → Value v ≡ numberOf l most → v ≤ most
+unfolding numberOf
+value-low l most v e = low-where (allDigits l) (leb (valueOf l) most) v (valueOf l) most (leb-true (valueOf l) most) e
