@@ -1,4 +1,3 @@
-pub mod Decimals
-pub mod Found
+pub mod Place
 pub mod Ranges
-pub mod Runs
+pub mod Table

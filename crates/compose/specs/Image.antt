@@ -1,12 +1,11 @@
 -- What an image line changes.
-use mathlib.Core.List.{List}
-use mathlib.Core.Path.{_≡_}
 use Prim.Native.Nat.{ℕ, _+_}
+use lib.Dec.{ltb}
 use lib.ListN.{set}
+use Rattle.words.specs.Words.{if_then_else_}
+use Rattle.calls.specs.declared.Call.{Call}
 use Rattle.image.specs.declared.Directory.{Directory}
 use Rattle.image.specs.declared.Entry.{Entry}
-use Rattle.compose.specs.Words.{Inside}
-use Rattle.compose.specs.declared.image_lines.Described.{Described}
 
 -- the directory with another N, and with other defined events
 abbrev pub withEvery : Directory → ℕ → Directory
@@ -15,18 +14,12 @@ withEvery d n = record { modules = d .modules; every = n; defined = d .defined; 
 abbrev pub withEvents : Directory → ℕ → Directory
 withEvents d set = record { modules = d .modules; every = d .every; defined = set; entries = d .entries }
 
--- the directory with one module more, behind those that it has
+-- the entry of a module line: its level, units, flags and entry point, in the fields of a call
+abbrev pub entryOf : Call → Entry
+entryOf c = record { level = c .number; units = c .value; flags = c .kind; point = c .amount }
+
+-- the directory with one module more, behind those that it has; as it was where it has 32
 abbrev pub withModule : Directory → Entry → Directory
-withModule d e = record { modules = d .modules + 1; every = d .every; defined = d .defined; entries = set (d .entries) (d .modules) e }
-
--- The line leaves this directory, and the scan lies in the line.
-pub record Describes (line : List ℕ) (wanted : Directory) (r : Described) : Type 0 where
-  pub directory : r .directory ≡ wanted
-  pub scan : Inside line 0 (r .scan)
-
--- The line leaves one module more, with N and the defined events as they were, and the scan lies in the line.
-pub record OneMore (line : List ℕ) (d : Directory) (r : Described) : Type 0 where
-  pub modules : r .directory .modules ≡ d .modules + 1
-  pub every : r .directory .every ≡ d .every
-  pub defined : r .directory .defined ≡ d .defined
-  pub scan : Inside line 0 (r .scan)
+withModule d e =
+    if ltb (d .modules) 32 then record { modules = d .modules + 1; every = d .every; defined = d .defined; entries = set (d .entries) (d .modules) e }
+    else d

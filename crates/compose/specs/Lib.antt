@@ -1,6 +1,5 @@
 pub mod Calls
 pub mod Events
 pub mod Image
-pub mod Numbers
 pub mod Session
 pub mod Words

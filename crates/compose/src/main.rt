@@ -3,14 +3,13 @@
 // how many calls were written.
 //
 // It knows the text form of docs/WORDS.md, the image and the 16 bytes of a call, and nothing of tables. A read may end at any byte.
-mod call_lines;
 mod events;
-mod image_lines;
+mod made;
 mod messages;
-mod numbers;
+mod operands;
 mod scan;
 mod session;
-mod word;
+mod verbs;
 
 use libc::STDIN_FILENO;
 use session::Session;

@@ -1,18 +1,18 @@
 // A session as it is read: the line so far, the image so far, and what each line does.
-use crate::call_lines;
-use crate::call_lines::Composed;
-use crate::image_lines;
-use crate::image_lines::Described;
-use crate::image_lines::Part;
+use crate::made;
 use crate::messages;
+use crate::operands;
 use crate::scan;
 use crate::scan::Fault;
 use crate::scan::Scan;
-use crate::word;
-use crate::word::Word;
+use crate::verbs;
+use crate::verbs::Shape;
+use crate::verbs::Verb;
+use calls::Call;
 use image::Directory;
 use image::Outcome;
 use libc::STDOUT_FILENO;
+use text::word::Word;
 ghost use Prim.Native.Nat.{_≤_};
 ghost use lib.ListN.{length};
 ghost use Rattle.compose.specs.Words.{Within, Inside};
@@ -101,84 +101,104 @@ fn closed(mut s: Session, at_end: bool) -> Session
     stopped(s)
 }
 
-// A line of the image, done.
-fn described(mut s: Session, line: &[u8], d: Described) -> Session
-    requires { ⌜ Held s × Inside (now line) 0 (d .scan) ⌝ }
-    ensures { λ r. ⌜ Held r ⌝ }
-{
-    let scan = d.scan;
-    if !scan::fine(scan) {
-        return refused(s, line, scan);
-    }
-    let directory = d.directory;
-    s.directory = directory;
-    s
-}
-
 // A call, done: the first one ends the image.
-fn called(s: Session, line: &[u8], c: Composed) -> Session
-    requires { ⌜ Held s × Inside (now line) 0 (c .scan) ⌝ }
+fn called(s: Session, call: Call) -> Session
+    requires { ⌜ Held s ⌝ }
     ensures { λ r. ⌜ Held r ⌝ }
 {
-    let scan = c.scan;
-    if !scan::fine(scan) {
-        return refused(s, line, scan);
-    }
     let after = closed(s, false);
     if !after.going {
         return after;
     }
-    let call = c.call;
     let mut done = written(after, &calls::write(call));
     done.calls = std::num::wrapping_add_u64(done.calls, 1);
     done
 }
 
+// A line of the image, done.
+fn described(mut s: Session, call: Call, shape: Shape) -> Session
+    requires { ⌜ Held s ⌝ }
+    ensures { λ r. ⌜ Held r ⌝ }
+{
+    let before = s.directory;
+    match shape {
+        Shape::Every => {
+            s.timed = true;
+            s.directory = made::every(before, call);
+        }
+        Shape::Events => {
+            s.listed = true;
+            s.directory = made::events(before, call);
+        }
+        _ => {
+            s.directory = made::with_module(before, call);
+        }
+    }
+    s
+}
+
 // What is wrong with a line of the image, before the words behind its first are read.
-fn out_of_place(s: Session, part: Part) -> Fault {
+fn out_of_place(s: Session, shape: Shape) -> Fault {
     if s.calling {
         return Fault::Late;
     }
-    let again = match part {
-        Part::Every => s.timed,
-        Part::Events => s.listed,
-        _ => false,
-    };
-    if again { Fault::Twice } else { Fault::Fine }
-}
-
-fn image_line(mut s: Session, line: &[u8], w: Word, part: Part) -> Session
-    requires { ⌜ Held s × Within (now line) 0 w ⌝ }
-    ensures { λ r. ⌜ Held r ⌝ }
-{
-    let verb = scan::begun(w, out_of_place(s, part));
-    let directory = s.directory;
-    match part {
-        Part::Every => {
-            s.timed = true;
-            described(s, line, image_lines::every(line, verb, directory))
-        }
-        Part::Events => {
-            s.listed = true;
-            described(s, line, image_lines::events(line, verb, directory))
-        }
-        _ => described(s, line, image_lines::next_module(line, verb, directory)),
+    let full = 32 <= s.directory.modules;
+    match shape {
+        Shape::Every => { if s.timed { Fault::Twice } else { Fault::Fine } }
+        Shape::Events => { if s.listed { Fault::Twice } else { Fault::Fine } }
+        _ => { if full { Fault::Full } else { Fault::Fine } }
     }
 }
 
-fn call_line(s: Session, line: &[u8], w: Word) -> Session
+fn image_line(s: Session, line: &[u8], w: Word, shape: Shape) -> Session
     requires { ⌜ Held s × Within (now line) 0 w ⌝ }
     ensures { λ r. ⌜ Held r ⌝ }
 {
-    let code = call_lines::code(line, w);
-    if code != 0 {
-        let verb = scan::begun(w, Fault::Fine);
-        return called(s, line, call_lines::call(line, verb, code));
+    let first = scan::begun(w, out_of_place(s, shape));
+    let o = operands::read(line, first, shape);
+    let behind = o.scan;
+    let end = scan::end(line, behind);
+    if scan::fine(end) {
+        let call = o.call;
+        return described(s, call, shape);
     }
-    if word::named(line, w, b"call") {
-        let verb = scan::begun(w, Fault::Fine);
-        return called(s, line, call_lines::raw(line, verb));
+    refused(s, line, end)
+}
+
+fn call_line(s: Session, line: &[u8], w: Word, verb: Verb) -> Session
+    requires { ⌜ Held s × Within (now line) 0 w ⌝ }
+    ensures { λ r. ⌜ Held r ⌝ }
+{
+    let shape = verb.shape;
+    let o = operands::read(line, scan::begun(w, Fault::Fine), shape);
+    let behind = o.scan;
+    let end = scan::end(line, behind);
+    if scan::fine(end) {
+        let call = o.call;
+        return called(s, made::call(verb.code, call));
     }
+    refused(s, line, end)
+}
+
+fn any_line(s: Session, line: &[u8], w: Word) -> Session
+    requires { ⌜ Held s × Within (now line) 0 w ⌝ }
+    ensures { λ r. ⌜ Held r ⌝ }
+{
+    let o = operands::any(line, scan::begun(w, Fault::Fine));
+    let behind = o.scan;
+    let end = scan::end(line, behind);
+    if scan::fine(end) {
+        let call = o.call;
+        return called(s, call);
+    }
+    refused(s, line, end)
+}
+
+// A line whose first word no row has.
+fn unknown(s: Session, line: &[u8], w: Word) -> Session
+    requires { ⌜ Held s × Within (now line) 0 w ⌝ }
+    ensures { λ r. ⌜ Held r ⌝ }
+{
     if s.calling {
         return refused(s, line, scan::begun(w, Fault::NotCall));
     }
@@ -190,14 +210,17 @@ fn line_read(s: Session, line: &[u8]) -> Session
     requires { ⌜ Held s ⌝ }
     ensures { λ r. ⌜ Held r ⌝ }
 {
-    let w = word::next(line, 0);
+    let w = scan::next(line, 0);
     if w.from == w.to {
         return s;
     }
-    let part = image_lines::which(line, w);
-    match part {
-        Part::Other => call_line(s, line, w),
-        _ => image_line(s, line, w, part),
+    let verb = verbs::find(line, w);
+    let shape = verb.shape;
+    match shape {
+        Shape::Unknown => unknown(s, line, w),
+        Shape::Call => any_line(s, line, w),
+        Shape::Every | Shape::Events | Shape::Module => image_line(s, line, w, shape),
+        _ => call_line(s, line, w, verb),
     }
 }
 

@@ -1,3 +1,2 @@
 pub mod Behind
-pub mod Decimal
 pub mod Unique

@@ -1,10 +1,10 @@
 -- Lines, as the bytes that are written. Document 01, 'A session in full': "It writes a line for the load (refusal, M or 0, 0), then one per call".
 use mathlib.Core.List.{List, [], _∷_, _++_}
 use mathlib.Core.Path.{_≡_}
-use Prim.Native.Nat.{ℕ, zero, suc, _+_, _/_, _%_, _≤_}
-use lib.Dec.{ltb}
+use Prim.Native.Nat.{ℕ, zero, suc, _+_, _≤_}
 use lib.ListN.{length, take}
 use Rattle.words.specs.Words.{if_then_else_, has}
+use Rattle.text.specs.Decimals.{spelling}
 use Rattle.calls.specs.declared.Answer.{Answer}
 use Rattle.lines.specs.declared.Line.{Line}
 
@@ -28,18 +28,9 @@ pub record Fits (l : Line) (xs : List ℕ) (most : ℕ) (r : Line) : Type 0 wher
   pub adds : Adds l xs r
   pub few : r .used ≤ l .used + most
 
--- a number in decimal, of at most so many digits: its last digit stands behind the number without it. 48 is the byte of the digit 0
-unfoldable pub decimalBy : ℕ → ℕ → List ℕ
-decimalBy zero n = []
-decimalBy (suc more) n = if ltb n 10 then (48 + n) ∷ [] else decimalBy more (n / 10) ++ (48 + n % 10) ∷ []
-
--- a number of 64 bits in decimal
-abbrev pub decimal : ℕ → List ℕ
-decimal n = decimalBy 20 n
-
 -- " 5" where 5 is in the set: 32 is the byte of a space
 abbrev pub memberOf : ℕ → ℕ → List ℕ
-memberOf set e = if has set e then 32 ∷ decimal e else []
+memberOf set e = if has set e then 32 ∷ spelling e else []
 
 -- the members of a set that are below n
 unfoldable pub membersOf : ℕ → ℕ → List ℕ
@@ -48,4 +39,4 @@ membersOf set (suc n) = membersOf set n ++ memberOf set n
 
 -- "0 3 0"
 abbrev pub answerOf : Answer → List ℕ
-answerOf a = decimal (a .refusal) ++ (32 ∷ (decimal (a .result) ++ (32 ∷ decimal (a .running))))
+answerOf a = spelling (a .refusal) ++ (32 ∷ (spelling (a .result) ++ (32 ∷ spelling (a .running))))

@@ -1,9 +1,11 @@
 // Lines: a line as bytes, gathered piece by piece, so that it can be written in one.
 use calls::Answer;
+use text::decimals;
 ghost use Prim.Native.Nat.{_+_, _≤_, _<_};
 ghost use lib.ListN.{length};
 ghost use mathlib.Core.List.{[], _++_};
-ghost use Rattle.lines.specs.Lines.{Holds, Adds, Fits, decimal, memberOf, membersOf, answerOf};
+ghost use Rattle.text.specs.Decimals.{spelling};
+ghost use Rattle.lines.specs.Lines.{Holds, Adds, Fits, memberOf, membersOf, answerOf};
 
 // The bytes, and how many of them there are so far.
 pub struct Line {
@@ -46,10 +48,11 @@ pub fn text(l: Line, words: &[u8]) -> Line
 // The line with a name behind it, and a number behind that.
 pub fn field(l: Line, name: &[u8], value: u64) -> Line
     requires { ⌜ l .used + length (now name) + 20 ≤ 512 ⌝ }
-    ensures { λ r. ⌜ Fits l (now (name .entry) ++ decimal value) (length (now (name .entry)) + 20) r ⌝ }
+    ensures { λ r. ⌜ Fits l (now (name .entry) ++ spelling value) (length (now (name .entry)) + 20) r ⌝ }
 {
-    let mut digits = [0u8; 20];
-    let n = io::decimal(value, &mut digits);
+    let number = decimals::spell(value);
+    let digits = number.bytes;
+    let n = number.count;
     text(text(l, name), &digits[..n])
 }
 

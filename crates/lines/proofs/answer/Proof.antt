@@ -2,7 +2,8 @@
 use mathlib.Core.List.{List, _∷_, _++_}
 use Prim.Native.Nat.{ℕ}
 use native.Mathlib.Omega.{arith}
-use Rattle.lines.specs.Lines.{decimal, answerOf}
+use Rattle.text.specs.Decimals.{spelling}
+use Rattle.lines.specs.Lines.{answerOf}
 use Rattle.lines.proofs.Behind.{onward, alone}
 use borrow.Author.Needs.{needs}
 use Rattle.lines.proofs.answer.Statement.{statement}
@@ -45,10 +46,10 @@ returns c =
     let first = c .before .before .before .before .before .before .field .ensures in
     let second = c .before .before .before .field2 .ensures in
     let third = c .field3 .ensures in
-    let result : List ℕ = 32 ∷ decimal (a .result) in
-    let running : List ℕ = 32 ∷ decimal (a .running) in
+    let result : List ℕ = 32 ∷ spelling (a .result) in
+    let running : List ℕ = 32 ∷ spelling (a .running) in
     alone (answerOf a) 62 none
-    (onward (decimal (a .refusal)) (result ++ running) (first .adds) (onward result running (second .adds) (third .adds)))
+    (onward (spelling (a .refusal)) (result ++ running) (first .adds) (onward result running (second .adds) (third .adds)))
     (omega (arith, none .used, first .few, second .few, third .few))
 
 pub answer-spec : {M : Type 1} → statement M

@@ -1,14 +1,13 @@
--- `field` meets its contract: the name, and behind it the digits that `io::decimal` spells.
+-- `field` meets its contract: the name, and behind it the number's spelling.
 use native.Mathlib.Omega.{arith}
-use Rattle.lines.specs.Lines.{decimal}
+use Rattle.text.specs.Decimals.{spelling}
 use Rattle.lines.proofs.Behind.{onward}
-use Rattle.lines.proofs.Decimal.{few, spelled}
 use borrow.Author.Needs.{needs}
 use Rattle.lines.proofs.field.Statement.{statement}
 use Rattle.lines.proofs.field.Tie as tie
 
-decimal-requires : tie.Need-decimal-requires
-decimal-requires c κs = search needs
+spell-requires : tie.Need-spell-requires
+spell-requires c κs = search needs
 
 text-requires : tie.Need-text-requires
 text-requires c κs = search needs
@@ -21,27 +20,25 @@ slice-aggregate-text c = search needs
 
 text-requires-2 : tie.Need-text-requires-2
 text-requires-2 c κs =
-    let s = c .before .before .before .before .before in
-    let d = c .before .before .decimal in
-    omega (arith, c .before .text .ensures .used, few (s .args .value) (s .fits .value .fits) (d .result) (d .ensures .1 .0), d .ensures .0 .1)
+    let d = c .before .before .before .spell .ensures in
+    omega (arith, c .before .text .ensures .used, d .few, d .first .1)
 
 returns : tie.Need-returns
 returns c =
-    let s = c .before .before .before .before .before .before in
-    let d = c .before .before .before .decimal in
-    let n = s .args .value in
+    let s = c .before .before .before .before .before .before .args in
+    let d = c .before .before .before .before .spell .ensures in
     let name = c .before .before .text .ensures in
     let number = c .text2 .ensures in
     record {
-      adds = onward (s .args .name .now) (decimal n) name (rw (← spelled n (s .fits .value .fits) (d .result) (d .ensures .1 .0), ← d .ensures .1 .1) number);
-      few = omega (arith, name .used, number .used, few n (s .fits .value .fits) (d .result) (d .ensures .1 .0), d .ensures .0 .1);
+      adds = onward (s .name .now) (spelling (s .value)) name (rw (← d .text) number);
+      few = omega (arith, name .used, number .used, d .few, d .first .1);
     }
 
 pub field-spec : {M : Type 1} → statement M
 field-spec =
     tie.close
     (tie.spec
-    decimal-requires
+    spell-requires
     text-requires
     array-share-prefix-digits
     slice-aggregate-text

@@ -3,7 +3,7 @@ use Prim.Native.Nat.{_/_, _%_, _^_}
 use native.Mathlib.Omega.{arith}
 use borrow.Author.Tests.{eq-eqb, ne-eqb}
 use Rattle.lines.proofs.Behind.{nothing-more}
-use Rattle.lines.proofs.Decimal.{short}
+use Rattle.text.proofs.Spelling.{short}
 use borrow.Author.Needs.{needs}
 use Rattle.lines.proofs.member.Statement.{statement}
 use Rattle.lines.proofs.member.Tie as tie

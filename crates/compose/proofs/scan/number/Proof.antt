@@ -1,6 +1,7 @@
 -- `scan::number` meets its contract: the number of a word is at most what it was asked to be.
 use mathlib.Core.Path.{sym, _∙_}
-use Rattle.compose.proofs.Decimals.{value-low}
+use Rattle.text.proofs.Digits.{value-low}
+use Rattle.compose.specs.Words.{bytesOf}
 use borrow.Author.Needs.{needs}
 use Rattle.compose.proofs.scan.number.Statement.{statement}
 use Rattle.compose.proofs.scan.number.Tie as tie
@@ -14,8 +15,8 @@ returns c = search needs
 next-requires : tie.Need-next-requires
 next-requires c κs = search needs
 
-of-word-requires : tie.Need-of-word-requires
-of-word-requires c κs = search needs
+number-of-requires : tie.Need-number-of-requires
+number-of-requires c κs = search needs
 
 enum-known-found : tie.Need-enum-known-found
 enum-known-found c = search needs
@@ -36,7 +37,11 @@ wrong-requires-2 : tie.Need-wrong-requires-2
 wrong-requires-2 c κs = search needs
 
 returns-2 : tie.Need-returns-2
-returns-2 c = record { scan = search needs; low = rw (c .past .ensures .3) (value-low (c .before .before .before .before .before .before .before .before .before .args .line .now) (c .before .before .before .before .before .next .result) (c .before .before .before .before .before .before .before .before .before .args .most) _ (sym (c .before .before .found .given .1) ∙ c .before .before .before .before .of-word .ensures)) }
+returns-2 c =
+    let s = c .before .before .before .before .before .before .before .before .before .args in
+    let word = bytesOf (s .line .now) (c .before .before .before .before .before .next .result) in
+    let read = sym (c .before .before .found .given .1) ∙ c .before .before .before .before .number-of .ensures in
+    record { scan = search needs; low = rw (c .past .ensures .3) (value-low word (s .most) _ read) }
 
 returns-3 : tie.Need-returns-3
 returns-3 c = search needs
@@ -51,7 +56,7 @@ number-spec =
     fine-requires
     returns
     next-requires
-    of-word-requires
+    number-of-requires
     enum-known-found
     past-requires
     enum-told
