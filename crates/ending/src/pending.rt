@@ -13,7 +13,7 @@ pub fn pending(t: Tables, k: u8) -> bool
 {
     let mut n: usize = 0;
     let mut some = false;
-    while n < 15 {
+    while n < REQUEST_COUNT {
         n += 1;
         let q = t.requests[n];
         some = some | ((q.owner == k) & ((q.place == QUEUED) | (q.place == ON_CHANNEL)));
