@@ -1,17 +1,17 @@
 -- The rules as tests give the rules as records: a state that keeps each rule, and whose queues are apart, is lawful.
 -- Each test is one that a file before this one reads: this file puts the parts together, block by block.
-use mathlib.Core.Bool.{true, not}
+use mathlib.Core.Bool.{true}
 use mathlib.Core.Path.{_≡_, refl, sym, ap, _∙_}
 use mathlib.Core.Logic.{⊎-elim}
 use mathlib.Core.List.{[]}
 use Prim.Native.Nat.{ℕ, _+_, _^_, _≤_, _<_}
 use native.Mathlib.Omega.{arith}
 use lib.ListN.{length}
-use lib.Dec.{eqb, ltb}
+use lib.Dec.{eqb}
 use borrow.Author.Tests.{eqb-true, eq-eqb, leb-true, ltb-true, not-true, not-false}
 use Rattle.threads.specs.Threads.{count, Apart}
 use Rattle.threads.proofs.Lists.{tested}
-use Rattle.words.specs.Words.{_implies_, upBy, has}
+use Rattle.words.specs.Words.{_implies_, upBy}
 use Rattle.words.proofs.Places.{under-or-from}
 use Rattle.tables.specs.declared.Request.{Request}
 use Rattle.tables.specs.declared.Task.{Task}
@@ -20,7 +20,7 @@ use Rattle.tables.specs.State.{State, eventQueue, timeQueue, channelQueue, task
 use Rattle.meaning.specs.Conditions.{undefinedIn}
 use Rattle.meaning.specs.Finish.{pendingOf, pending}
 use Rattle.meaning.specs.Channel.{channelLevel}
-use Rattle.meaning.specs.Rules.{everyTask, everyRequest, onDefined, tasksInPlace, requestsInPlace, freeSets, queuesInOrder, coreNeeded, owned, checksPending, endingPending, queueFor}
+use Rattle.meaning.specs.Rules.{onDefined, tasksInPlace, requestsInPlace, queuesInOrder, coreNeeded, owned, checksPending, endingPending, queueFor}
 use Rattle.meaning.proofs.Rules.{Keeps}
 use Rattle.meaning.proofs.Parts.{taskRange, requestRange, taskStands, requestStands, taskFree, requestFree, taskClear, requestClear, Ranges, ranges, Sets, sets, Clears, clears}
 use Rattle.lawful.specs.Shape.{one, placeOf, Fields, Stands, Carried, Sizes, Blank, Shape}
@@ -39,12 +39,6 @@ use Rattle.lawful.proofs.Chains.{ranked-of}
 use Rattle.lawful.proofs.RestRules.{busy-of, asleep-of, flowing-of, stuck-of, passes-of}
 use Rattle.lawful.proofs.Pendings.{pending-at, pending-of, pending-some}
 use Rattle.lawful.proofs.Bits.{bit-of, and-within}
-
--- "The free blocks are sets"
-pub sets-of : (s : State) → freeSets s ≡ true
-    → (everyTask (taskFree s) ≡ true) × (everyRequest (requestFree s) ≡ true)
-    × (ltb (s .freeTasks) (2 ^ 25) ≡ true) × (not (has (s .freeTasks) 0) ≡ true) × (ltb (s .freeRequests) (2 ^ 17) ≡ true) × (not (has (s .freeRequests) 0) ≡ true)
-sets-of s e = let f = sets s e in (f .tasks, f .requests, f .freeTasks, f .freeTasks-none, f .freeRequests, f .freeRequests-none)
 
 module _ (s : State) (z : Sizes s) (low : (level : ℕ) → poolAt s level < 2 ^ 64) (u : Apart (s .queues)) (r : Keeps s) where
   range : Ranges s

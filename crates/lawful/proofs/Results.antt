@@ -19,13 +19,13 @@ use Rattle.calls.specs.Calls.{callOf}
 use Rattle.meaning.specs.Rules.{pointersSound, freeSets, stateRules, rulesHold}
 use Rattle.meaning.specs.Refusals.{callRows, refusals}
 use Rattle.meaning.proofs.Rules.{all-rules}
+use Rattle.meaning.proofs.Parts.{sets}
 use Rattle.meaning.specs.Services.{Effect, freemain, link, end, schedule, wait, signal, testEvent, dispatchCheck, readOrWrite, check, timer, ioDone, programCheck, operatorStart, effect}
 use Rattle.lawful.proofs.Truth.{both}
 use Rattle.lawful.proofs.Bits.{bit-of}
 use Rattle.lawful.proofs.Free.{least-some}
 use Rattle.lawful.proofs.Keeps.{known-last}
 use Rattle.lawful.proofs.Accepted.{and-fails, rows, rows-left}
-use Rattle.lawful.proofs.FromRules.{sets-of}
 
 record Some (e : Effect) : Type 0 where
   some : 1 ≤ e .result
@@ -41,14 +41,14 @@ module _ (s : State) (c : Call) (e : firstOf (callRows s c) ≡ 0) (f : freeSets
   starts-some : c .code among (5 ∷ 7 ∷ 35 ∷ []) ≡ true → 1 ≤ operatorStart s c .result
   unfolding operatorStart
   starts-some o =
-      let b = sets-of s f in
-      least-some (s .freeTasks) 25 (omega arith) (ltb-true _ _ (b .2)) (eqb-false _ 0 (and-fails _ (eqb (s .freeTasks) 0) (rows s c e .10) o)) (bit-of (s .freeTasks) 0 (not-true _ (b .3)))
+      let b = sets s f in
+      least-some (s .freeTasks) 25 (omega arith) (ltb-true _ _ (b .freeTasks)) (eqb-false _ 0 (and-fails _ (eqb (s .freeTasks) 0) (rows s c e .10) o)) (bit-of (s .freeTasks) 0 (not-true _ (b .freeTasks-none)))
 
   transfers-some : c .code among (13 ∷ 14 ∷ []) ≡ true → 1 ≤ readOrWrite s c .result
   unfolding readOrWrite
   transfers-some o =
-      let b = sets-of s f in
-      least-some (s .freeRequests) 17 (omega arith) (ltb-true _ _ (b .4)) (eqb-false _ 0 (and-fails _ (eqb (s .freeRequests) 0) (rows s c e .11) o)) (bit-of (s .freeRequests) 0 (not-true _ (b .5)))
+      let b = sets s f in
+      least-some (s .freeRequests) 17 (omega arith) (ltb-true _ _ (b .freeRequests)) (eqb-false _ 0 (and-fails _ (eqb (s .freeRequests) 0) (rows s c e .11) o)) (bit-of (s .freeRequests) 0 (not-true _ (b .freeRequests-none)))
 
   one-of : (l : List ℕ) (n : ℕ) → n among l ≡ true → c .code ≡ n → c .code among l ≡ true
   one-of l n e z = ap (λ (x : ℕ). x among l) z ∙ e

@@ -12,7 +12,7 @@ use Rattle.tables.specs.Blocks.{Free, InLink, InCheck, Ending}
 use Rattle.tables.specs.State.{State, taskAt, poolAt, levelOf}
 use Rattle.meaning.specs.Conditions.{undefinedIn}
 use Rattle.meaning.specs.Finish.{pendingOf, pending}
-use Rattle.meaning.specs.Rules.{onDefined, tasksInPlace, requestsInPlace, queuesInOrder, coreNeeded, owned, checksPending, endingPending}
+use Rattle.meaning.specs.Rules as rules
 use Rattle.meaning.proofs.Rules.{Keeps}
 use Rattle.meaning.proofs.Parts.{taskRange, requestRange, taskStands, requestStands, taskFree, requestFree, taskClear, requestClear, Ranges, in-range, Sets, free-sets, Clears, all-clear}
 use Rattle.lawful.specs.Shape.{one, bit, children, Stands}
@@ -56,19 +56,19 @@ module _ {s : State} (g : Lawful s) where
       }
 
   -- "events on are defined"
-  on-defined : onDefined s ≡ true
-  unfolding onDefined undefinedIn
+  on-defined : rules.onDefined s ≡ true
+  unfolding rules.onDefined undefinedIn
   on-defined = ap not (ap not (eq-eqb _ _ (of-within (s .on) (s .directory .defined) (g .shape .blank .on))))
 
   -- the places of blocks, and the free ones
-  tasks-placed : tasksInPlace s ≡ true
-  unfolding tasksInPlace
+  tasks-placed : rules.tasksInPlace s ≡ true
+  unfolding rules.tasksInPlace
   tasks-placed =
       to-all (taskStands s) 24
       (λ k a b. of-task-placed s k (g .shape .sizes .queues) (level-low k a b) (record { only = stands k a b .queued }) (stands k a b .runs))
 
-  requests-placed : requestsInPlace s ≡ true
-  unfolding requestsInPlace
+  requests-placed : rules.requestsInPlace s ≡ true
+  unfolding rules.requestsInPlace
   requests-placed = to-all (requestStands s) 16 (λ r a b. of-carried s r (g .shape .requests r a b) (g .shape .sizes .queues))
 
   free : Sets s
@@ -94,26 +94,26 @@ module _ {s : State} (g : Lawful s) where
         pool = eq-eqb (poolAt s 0) 0 (b .pool);
       }
 
-  in-order : queuesInOrder s ≡ true
-  unfolding queuesInOrder
+  in-order : rules.queuesInOrder s ≡ true
+  unfolding rules.queuesInOrder
   in-order = and-of _ _ (g .shape .timed) (g .shape .levelled)
 
-  core-needed : coreNeeded s ≡ true
-  unfolding coreNeeded
+  core-needed : rules.coreNeeded s ≡ true
+  unfolding rules.coreNeeded
   core-needed = to-all (neededAt s) 24 (λ k a b. of-needed s k (stands k a b .fields))
 
-  all-owned : owned s ≡ true
-  unfolding owned
+  all-owned : rules.owned s ≡ true
+  unfolding rules.owned
   all-owned = to-all (ownedAt s) 16 (λ r a b. of-owned s r (g .shape .requests r a b))
 
-  checks : checksPending s ≡ true
-  unfolding checksPending
+  checks : rules.checksPending s ≡ true
+  unfolding rules.checksPending
   checks =
       to-all (λ k. eqb (taskAt s k .place) InCheck implies pendingOf s k (taskAt s k .request)) 24
       (λ k a b. of-implied (eqb (taskAt s k .place) InCheck) (pendingOf s k (taskAt s k .request)) (λ i. of-pending s k _ (stands k a b .checks (eqb-true _ _ i))))
 
-  endings : endingPending s ≡ true
-  unfolding endingPending
+  endings : rules.endingPending s ≡ true
+  unfolding rules.endingPending
   endings =
       to-all (λ k. eqb (taskAt s k .place) Ending implies pending s k) 24
       (λ k a b. of-implied (eqb (taskAt s k .place) Ending) (pending s k) (λ i. let w = stands k a b .ends (eqb-true _ _ i) in some-pending s k (w .0) (w .1)))
