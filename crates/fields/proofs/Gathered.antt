@@ -1,20 +1,26 @@
 -- One turn of each pass: what the code has of a block, its mark and its module read at run time, is what the rules ask.
 use mathlib.Core.Bool.{Bool, not, _&&_}
-use mathlib.Core.Path.{_≡_, _∙_}
+use mathlib.Core.Path.{_≡_, sym, _∙_}
 use mathlib.Core.List.{List}
-use Prim.Native.Nat.{ℕ}
+use Prim.Native.Nat.{ℕ, _≤_}
 use native.Mathlib.Omega.{arith}
-use lib.Bits.{bitAnd}
-use lib.Dec.{eqb, leb, ltb}
+use lib.Dec.{eqb}
 use Rattle.words.specs.Words.{_implies_, allOf, someOf, oneTo, standing, has}
 use Rattle.image.specs.declared.Entry.{Entry}
 use Rattle.tables.specs.declared.Tables.{Tables}
 use Rattle.tables.specs.Blocks.{Free, InCheck}
-use Rattle.tables.specs.State.{State, read, node, taskAt, requestAt, poolAt, entryFor, levelOf, unitsOf}
-use Rattle.meaning.specs.Rules.{directoryPasses, blankTask, blankRequest}
-use Rattle.fields.specs.Blocks.{fieldsRight, placeRight, waiterRight, pends, pendingRight, taskPasses, Marked, requestMarked, requestPasses, firstPass}
+use Rattle.tables.specs.State.{State, read, node, taskAt, requestAt, entryFor, levelOf, unitsOf}
+use Rattle.meaning.specs.Rules.{blankTask}
+use Rattle.fields.specs.Blocks.{fieldsRight, placeRight, waiterRight, pends, pendingRight, taskPasses, Marked, requestMarked, requestPasses}
+use Rattle.lawful.proofs.Tests.{all-to, to-all}
+use Rattle.pointers.proofs.Tests.{same-test}
 use Rattle.fields.proofs.ByPlace.{free-whole}
-use Rattle.fields.proofs.Parts.{all-same}
+
+-- two tests that agree on each block
+all-same : (p q : ℕ → Bool) (n : ℕ) → ((k : ℕ) → 1 ≤ k → k ≤ n → p k ≡ q k) → allOf p (oneTo n) ≡ allOf q (oneTo n)
+all-same p q n f =
+    same-test (allOf p (oneTo n)) (allOf q (oneTo n)) (λ e. to-all q n (λ k l h. sym (f k l h) ∙ all-to p n e k l h))
+    (λ e. to-all p n (λ k l h. f k l h ∙ all-to q n e k l h))
 
 -- the request blocks, by the marks
 pub requests-marked : (t : Tables) {m : List ℕ} → Marked t m
@@ -44,12 +50,3 @@ module _ (s : State) (k : ℕ) where
       → b ≡ taskPasses s k
   unfolding taskPasses
   used-turn own stands program asks pend e = e ∙ rw (stands, program, asks, pend)
-
-module _ (s : State) where
-  -- the whole of the first pass
-  pub first-whole : {d i p x q rs ts : Bool} → d ≡ directoryPasses (s .directory) → i ≡ has (s .freeTasks) 0 → p ≡ has (s .freeRequests) 0 → x ≡ blankTask (taskAt s 0)
-      → q ≡ blankRequest (requestAt s 0) → rs ≡ allOf (requestPasses s) (oneTo 16) → ts ≡ allOf (taskPasses s) (oneTo 24)
-      → (d && (leb (s .running) 24 && leb (s .channel) 16) && eqb (bitAnd (s .on) (s .directory .defined)) (s .on)
-      && (ltb (s .freeTasks) 33554432 && not i && ltb (s .freeRequests) 131072 && not p) && (x && q && eqb (poolAt s 0) 0) && (rs && ts)) ≡ firstPass s
-  unfolding firstPass
-  first-whole a b c e f g h = rw (a, b, c, e, f, g, h)

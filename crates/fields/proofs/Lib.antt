@@ -1,6 +1,5 @@
 pub mod Owners
 pub mod ByPlace
 pub mod Slots
-pub mod Parts
 pub mod Gathered
 pub mod Unique

@@ -1,12 +1,12 @@
 -- The rules over one block, gathered: what a task block and a request block pass in one turn of a loop.
 use mathlib.Core.Bool.{Bool, not, _&&_, _||_, Bool·beq}
 use mathlib.Core.Path.{_≡_}
-use mathlib.Core.List.{List}
+use mathlib.Core.List.{List, [], _∷_}
 use Prim.Native.Nat.{ℕ, _+_, _≤_, _^_}
 use lib.Bits.{bitAnd}
 use lib.Dec.{eqb, leb, ltb}
 use lib.ListN.{getD}
-use Rattle.words.specs.Words.{if_then_else_, _implies_, allOf, someOf, oneTo, standing, has, size}
+use Rattle.words.specs.Words.{if_then_else_, _implies_, allOf, someOf, oneTo, standing, allTrue, has, size}
 use Rattle.tables.specs.declared.Task.{Task}
 use Rattle.tables.specs.declared.Request.{Request}
 use Rattle.tables.specs.declared.Tables.{Tables}
@@ -103,9 +103,22 @@ pub record Gathered (requests : List Request) (marks : List ℕ) (freeTasks free
 
 -- ---- The first pass: the directory, the numbers of the tables, slot 0, and each block by itself.
 
+unfoldable pub firstTests : State → List Bool
+firstTests s =
+    directoryPasses (s .directory)
+    ∷ leb (s .running) 24
+    ∷ leb (s .channel) 16
+    ∷ eqb (bitAnd (s .on) (s .directory .defined)) (s .on)
+    ∷ ltb (s .freeTasks) (2 ^ 25)
+    ∷ not (has (s .freeTasks) 0)
+    ∷ ltb (s .freeRequests) (2 ^ 17)
+    ∷ not (has (s .freeRequests) 0)
+    ∷ blankTask (taskAt s 0)
+    ∷ blankRequest (requestAt s 0)
+    ∷ eqb (poolAt s 0) 0
+    ∷ allOf (requestPasses s) (oneTo 16)
+    ∷ allOf (taskPasses s) (oneTo 24)
+    ∷ []
+
 unfoldable pub firstPass : State → Bool
-firstPass s =
-    directoryPasses (s .directory) && (leb (s .running) 24 && leb (s .channel) 16) && eqb (bitAnd (s .on) (s .directory .defined)) (s .on)
-    && (ltb (s .freeTasks) (2 ^ 25) && not (has (s .freeTasks) 0) && ltb (s .freeRequests) (2 ^ 17) && not (has (s .freeRequests) 0))
-    && (blankTask (taskAt s 0) && blankRequest (requestAt s 0) && eqb (poolAt s 0) 0)
-    && (allOf (requestPasses s) (oneTo 16) && allOf (taskPasses s) (oneTo 24))
+firstPass s = allTrue (firstTests s)

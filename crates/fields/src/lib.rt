@@ -29,12 +29,16 @@ pub fn first_pass(t: Tables, marks: [u8; 41]) -> bool
     let asked = turns::requests(requests, marks, t.freeTasks, t.freeRequests, t.channel);
     let d = t.directory;
     directory_passes(d)
-        & ((t.running <= 24) & (t.channel <= 16))
+        & (t.running <= 24)
+        & (t.channel <= 16)
         & (t.on & d.defined == t.on)
-        & ((t.freeTasks < 33554432)
-            & !sets32::has(t.freeTasks, 0)
-            & (t.freeRequests < 131072)
-            & !sets32::has(t.freeRequests, 0))
-        & (block::blank_task(t.tasks[0]) & block::blank_request(t.requests[0]) & (t.pools[0] == 0))
-        & (asked.right & turns::tasks(t, marks, asked.owners))
+        & (t.freeTasks < 33554432)
+        & !sets32::has(t.freeTasks, 0)
+        & (t.freeRequests < 131072)
+        & !sets32::has(t.freeRequests, 0)
+        & block::blank_task(t.tasks[0])
+        & block::blank_request(t.requests[0])
+        & (t.pools[0] == 0)
+        & asked.right
+        & turns::tasks(t, marks, asked.owners)
 }

@@ -1,6 +1,6 @@
 -- The tests of a block's place: the list in which it stands is the queue of its place, and it runs, or is on the channel, where its place says so.
 -- By `standing`, where no block stands twice.
-use mathlib.Core.Bool.{Bool, true, _&&_, Bool·beq}
+use mathlib.Core.Bool.{true, Bool·beq}
 use mathlib.Core.Path.{_≡_, refl, sym, ap, _∙_}
 use mathlib.Core.Logic.{_≢_, ⊎-elim}
 use mathlib.Core.List.{List, []}
@@ -15,6 +15,7 @@ use Rattle.words.specs.Words.{if_then_else_, standing}
 use Rattle.tables.specs.Blocks.{Free, Running, Ready, InCore, InEvent, InTime, Queued, OnChannel}
 use Rattle.tables.specs.State.{State, channelQueue, node, taskAt, requestAt, queue, levelOf}
 use Rattle.meaning.specs.Rules.{queueFor}
+use Rattle.meaning.proofs.Parts.{taskStands, requestStands}
 use Rattle.lawful.specs.Shape.{one}
 use Rattle.lawful.proofs.Shape.{one-same, one-other}
 use Rattle.lawful.proofs.Truth.{both, and-of}
@@ -45,17 +46,13 @@ queue-nine p level h =
     (tested p InTime)) (tested p InEvent)) (tested p InCore)) (tested p Ready)
 
 module _ (s : State) (k : ℕ) where
-  abbrev pub taskPlaced : Bool
-  taskPlaced =
-      eqb (standing k (s .queues)) (queueFor (taskAt s k .place) (levelOf s k)) && Bool·beq (eqb (s .running) k) (eqb (taskAt s k .place) Running)
-
-  pub task-placed : Apart (s .queues) → taskPlaced ≡ true → Only (s .queues) k (queueFor (taskAt s k .place) (levelOf s k)) × (one (s .running) k ≡ one (taskAt s k .place) Running)
+  pub task-placed : Apart (s .queues) → taskStands s k ≡ true → Only (s .queues) k (queueFor (taskAt s k .place) (levelOf s k)) × (one (s .running) k ≡ one (taskAt s k .place) Running)
   task-placed u e =
       let p = both (eqb (standing k (s .queues)) (queueFor (taskAt s k .place) (levelOf s k))) (Bool·beq (eqb (s .running) k) (eqb (taskAt s k .place) Running)) e in
       (only-of (s .queues) u k _ (eqb-true _ _ (p .0)), same-of (s .running) k (taskAt s k .place) Running (p .1))
 
   pub of-task-placed : length (s .queues) ≡ 9 → (taskAt s k .place ≢ Free → levelOf s k ≤ 3) → Only (s .queues) k (queueFor (taskAt s k .place) (levelOf s k))
-      → one (s .running) k ≡ one (taskAt s k .place) Running → taskPlaced ≡ true
+      → one (s .running) k ≡ one (taskAt s k .place) Running → taskStands s k ≡ true
   of-task-placed n l o r =
       and-of _ _ (eq-eqb _ _ (of-only (s .queues) n k _ (queue-nine (taskAt s k .place) (levelOf s k) l) o)) (of-same-ones (s .running) k (taskAt s k .place) Running r)
 
@@ -76,11 +73,7 @@ channel-nine : (p : ℕ) → channelFor p ≤ 9
 channel-nine p = ⊎-elim (λ z. rw (z .0) (omega arith)) (λ z. rw (z .0) (omega arith)) (tested p Queued)
 
 module _ (s : State) (r : ℕ) where
-  abbrev pub requestPlace : Bool
-  requestPlace =
-      eqb (standing (node r) (s .queues)) (channelFor (requestAt s r .place)) && Bool·beq (eqb (s .channel) r) (eqb (requestAt s r .place) OnChannel)
-
-  pub request-placed : Apart (s .queues) → requestPlace ≡ true → Only (s .queues) (node r) (channelFor (requestAt s r .place)) × (one (s .channel) r ≡ one (requestAt s r .place) OnChannel)
+  pub request-placed : Apart (s .queues) → requestStands s r ≡ true → Only (s .queues) (node r) (channelFor (requestAt s r .place)) × (one (s .channel) r ≡ one (requestAt s r .place) OnChannel)
   request-placed u e =
       let p = both (eqb (standing (node r) (s .queues)) (channelFor (requestAt s r .place))) (Bool·beq (eqb (s .channel) r) (eqb (requestAt s r .place) OnChannel)) e in
       (only-of (s .queues) u (node r) _ (eqb-true _ _ (p .0)), same-of (s .channel) r (requestAt s r .place) OnChannel (p .1))
@@ -95,6 +88,6 @@ module _ (s : State) (r : ℕ) where
             (λ z. let l′ : i < 8 = omega (arith, l, z .1) in f i l′ ∙ sym (channel-others (requestAt s r .place) i l′)) (tested i channelQueue);
       }
 
-  pub of-request-placed : length (s .queues) ≡ 9 → Only (s .queues) (node r) (channelFor (requestAt s r .place)) → one (s .channel) r ≡ one (requestAt s r .place) OnChannel → requestPlace ≡ true
+  pub of-request-placed : length (s .queues) ≡ 9 → Only (s .queues) (node r) (channelFor (requestAt s r .place)) → one (s .channel) r ≡ one (requestAt s r .place) OnChannel → requestStands s r ≡ true
   of-request-placed n o c =
       and-of _ _ (eq-eqb _ _ (of-only (s .queues) n (node r) _ (channel-nine (requestAt s r .place)) o)) (of-same-ones (s .channel) r (requestAt s r .place) OnChannel c)

@@ -18,13 +18,14 @@ use Rattle.calls.specs.declared.Call.{Call}
 use Rattle.calls.specs.Calls.{callOf}
 use Rattle.meaning.specs.Rules.{pointersSound, freeSets, stateRules, rulesHold}
 use Rattle.meaning.specs.Refusals.{callRows, refusals}
+use Rattle.meaning.proofs.Rules.{all-rules}
 use Rattle.meaning.specs.Services.{Effect, freemain, link, end, schedule, wait, signal, testEvent, dispatchCheck, readOrWrite, check, timer, ioDone, programCheck, operatorStart, effect}
 use Rattle.lawful.proofs.Truth.{both}
 use Rattle.lawful.proofs.Bits.{bit-of}
 use Rattle.lawful.proofs.Free.{least-some}
 use Rattle.lawful.proofs.Keeps.{known-last}
 use Rattle.lawful.proofs.Accepted.{and-fails, rows, rows-left}
-use Rattle.lawful.proofs.FromRules.{each-at, sets-of}
+use Rattle.lawful.proofs.FromRules.{sets-of}
 
 record Some (e : Effect) : Type 0 where
   some : 1 ≤ e .result
@@ -73,8 +74,8 @@ module _ (s : State) (c : Call) (e : firstOf (callRows s c) ≡ 0) (f : freeSets
 
 -- the law: of any tables, and any bytes that are accepted
 pub result-some : (t : Tables) (bytes : List ℕ) → firstOf (refusals t bytes) ≡ 0 → 1 ≤ effect (read t) (callOf bytes) .result
-unfolding rulesHold stateRules
+unfolding rulesHold
 result-some t bytes e =
     let left = rows-left t bytes e in
     let b = both (pointersSound (t .threads)) (allTrue (stateRules (read t))) (left .0) in
-    each (read t) (callOf bytes) (left .2) (each-at (stateRules (read t)) (b .1) 5) .some
+    each (read t) (callOf bytes) (left .2) (all-rules (b .1) .freeSets) .some

@@ -1,36 +1,35 @@
 -- Demand 3: whatever the tables and the call are, a step leaves tables that pass the rules where it was given such; and so all tables that are reached
 -- from an image that loads pass them. The rules as tests are the rules as records, and each accepted call keeps those.
 use mathlib.Core.Bool.{true}
-use mathlib.Core.Path.{_≡_, refl, sym, ap, _∙_}
+use mathlib.Core.Path.{_≡_, refl, ap, _∙_}
 use mathlib.Core.Logic.{⊎-elim}
 use mathlib.Core.List.{List}
 use Prim.Native.Nat.{ℕ}
 use lib.ListN.{length, length-map}
-use borrow.Author.Tests.{eq-eqb}
 use Rattle.threads.specs.declared.Threads.{Threads}
 use Rattle.threads.specs.Threads.{queuesOf, threaded}
 use Rattle.threads.proofs.Read.{read-back, sound}
 use Rattle.words.specs.Words.{allTrue}
 use Rattle.words.specs.Rows.{firstOf}
 use Rattle.image.specs.Answer.{refusalOf}
-use Rattle.image.specs.Load.{directoryOf, loadOf}
-use Rattle.image.proofs.Loads.{good, load-accepted, check-is-load}
+use Rattle.image.specs.Load.{loadOf}
 use Rattle.tables.specs.declared.Tables.{Tables}
 use Rattle.tables.specs.State.{State, withQueues, read, tabled}
 use Rattle.calls.specs.Calls.{callOf}
 use Rattle.meaning.specs.Refusals.{refusals}
-use Rattle.meaning.specs.Rules.{directoryPasses, pointersSound, stateRules, rulesHold}
+use Rattle.meaning.specs.Rules.{pointersSound, stateRules, rulesHold}
 use Rattle.meaning.specs.Step.{accepted, stepOf, tablesOf}
+use Rattle.meaning.proofs.Rules.{all-rules, rules-all}
+use Rattle.meaning.proofs.Loaded.{load-lawful}
 use Rattle.lawful.specs.Resting.{Lawful}
 use Rattle.lawful.specs.Tables.{Typed, LawfulTables}
 use Rattle.lawful.specs.Reached.{Reached, load, step}
 use Rattle.lawful.proofs.Truth.{both, and-of}
 use Rattle.lawful.proofs.Pointers.{sound-of, of-sound}
 use Rattle.lawful.proofs.Corollaries.{shape-apart}
-use Rattle.lawful.proofs.Directory.{passing}
 use Rattle.lawful.proofs.FromRules.{rules-lawful}
 use Rattle.lawful.proofs.ToRules.{lawful-rules}
-use Rattle.lawful.proofs.Loaded.{load-lawful}
+use Rattle.lawful.proofs.Loaded.{loads-typed}
 use Rattle.lawful.proofs.Accepted.{accepts, rows-left}
 use Rattle.lawful.proofs.Keeps.{keeps}
 use Rattle.lawful.proofs.Ends.{step-ends, refused-leaves}
@@ -49,12 +48,12 @@ rules-tables t y e =
     let p = sound-of (t .threads) n (b .0) in
     record {
       pointers = p;
-      state = rules-lawful (read t) (record { tasks = y .tasks; requests = y .requests; pools = y .pools; queues = n }) (y .low) (p .apart) (b .1);
+      state = rules-lawful (read t) (record { tasks = y .tasks; requests = y .requests; pools = y .pools; queues = n }) (y .low) (p .apart) (all-rules (b .1));
     }
 
 pub tables-rules : (t : Tables) → LawfulTables t → rulesHold t ≡ true
 unfolding rulesHold
-tables-rules t g = and-of _ _ (of-sound (t .threads) (g .pointers)) (lawful-rules (g .state))
+tables-rules t g = and-of _ _ (of-sound (t .threads) (g .pointers)) (rules-all (lawful-rules (g .state)))
 
 -- ---- A lawful state as tables, and back.
 
@@ -79,10 +78,7 @@ step-keeps t bytes y e = tables-rules _ (step-lawful t bytes (rules-tables t y e
 -- ---- From an image that loads on.
 
 loads-lawful : (image : List ℕ) → refusalOf (loadOf image .outcome) ≡ 0 → LawfulTables (tablesOf image)
-unfolding tablesOf directoryPasses
-loads-lawful image e =
-    let none = sym (check-is-load image) ∙ e in
-    rw (eq-eqb _ _ e, load-accepted image none) (tabled-lawful (load-lawful (directoryOf image) (passing (directoryOf image) (eq-eqb _ 0 (good image none .sound)))))
+loads-lawful image e = rules-tables (tablesOf image) (loads-typed image e) (load-lawful image e)
 
 pub reached-lawful : (image : List ℕ) {t : Tables} → Reached image t → LawfulTables t
 reached-lawful image (load e) = loads-lawful image e

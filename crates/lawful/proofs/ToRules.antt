@@ -1,27 +1,27 @@
--- The rules as records give the rules as tests: of a lawful state every test holds. Each test is shown by a file before this one; this file goes through
--- them in document 01's order.
-use mathlib.Core.Bool.{Bool, true, not, Bool·beq}
-use mathlib.Core.Path.{_≡_, refl, ap}
+-- The rules as records give the rules as tests: a lawful state keeps each rule. Each test is shown by a file before this one; this file names them.
+use mathlib.Core.Bool.{true, not}
+use mathlib.Core.Path.{_≡_, ap}
 use mathlib.Core.Logic.{_≢_, ⊎-elim}
-use mathlib.Core.List.{List, [], _∷_}
 use Prim.Native.Nat.{ℕ, _^_, _≤_}
 use native.Mathlib.Omega.{arith}
 use lib.Dec.{eqb}
 use borrow.Author.Tests.{eq-eqb, eqb-true, le-leb, lt-ltb, ne-eqb}
 use Rattle.threads.proofs.Lists.{tested}
-use Rattle.words.specs.Words.{_implies_, allTrue, has}
+use Rattle.words.specs.Words.{_implies_, has}
 use Rattle.tables.specs.Blocks.{Free, InLink, InCheck, Ending}
-use Rattle.tables.specs.State.{State, taskAt, requestAt, poolAt, levelOf, unitsOf}
+use Rattle.tables.specs.State.{State, taskAt, poolAt, levelOf}
 use Rattle.meaning.specs.Conditions.{undefinedIn}
 use Rattle.meaning.specs.Finish.{pendingOf, pending}
-use Rattle.meaning.specs.Rules.{taskInRange, requestInRange, inRange, onDefined, tasksInPlace, requestsInPlace, freeSets, clearTask, clearRequest, fieldsClear, queuesInOrder, coreNeeded, owned, checksPending, endingPending, stateRules}
+use Rattle.meaning.specs.Rules.{onDefined, tasksInPlace, requestsInPlace, queuesInOrder, coreNeeded, owned, checksPending, endingPending}
+use Rattle.meaning.proofs.Rules.{Keeps}
+use Rattle.meaning.proofs.Parts.{taskRange, requestRange, taskStands, requestStands, taskFree, requestFree, taskClear, requestClear, Ranges, in-range, Sets, free-sets, Clears, all-clear}
 use Rattle.lawful.specs.Shape.{one, bit, children, Stands}
 use Rattle.lawful.specs.Resting.{Lawful}
 use Rattle.lawful.proofs.Shape.{one-other, rest-place}
 use Rattle.lawful.proofs.Truth.{and-of, of-implied}
 use Rattle.lawful.proofs.Tests.{to-all, of-set}
 use Rattle.lawful.proofs.Blanks.{of-task-blank, of-request-blank}
-use Rattle.lawful.proofs.PlaceRules.{taskPlaced, requestPlace, of-task-placed}
+use Rattle.lawful.proofs.PlaceRules.{of-task-placed}
 use Rattle.lawful.proofs.TaskRules.{neededAt, of-range, no-request, of-clear, of-needed}
 use Rattle.lawful.proofs.RequestRules.{ownedAt, of-request-range, of-request-clear, of-carried, of-freeRequests, of-owned}
 use Rattle.lawful.proofs.CoreRules.{of-core, of-links}
@@ -29,19 +29,6 @@ use Rattle.lawful.proofs.Chains.{of-ranked}
 use Rattle.lawful.proofs.RestRules.{of-busy, of-asleep, of-stuck, of-flowing, of-levels, of-passes}
 use Rattle.lawful.proofs.Pendings.{of-pending, some-pending}
 use Rattle.lawful.proofs.Bits.{of-within}
-
--- every test of a list, from the tests one by one
-record All (l : List Bool) : Type 0 where
-  all : allTrue l ≡ true
-
-infixr 5 _also_
-_also_ : {b : Bool} {l : List Bool} → b ≡ true → All l → All (b ∷ l)
-unfolding allTrue
-_also_ {b} {l} e f = record { all = and-of b (allTrue l) e (f .all) }
-
-no-more : All []
-unfolding allTrue
-no-more = record { all = refl }
 
 has-not : (w : ℕ) → bit w 0 ≡ 0 → not (has w 0) ≡ true
 has-not w e = ap not (ne-eqb (bit w 0) 1 (λ z. omega (arith, e, z)))
@@ -59,12 +46,14 @@ module _ {s : State} (g : Lawful s) where
       ⊎-elim (λ i. w .checks (i .1) .low) (λ i. omega (arith, no-request s k (w .fields) (i .1))) (tested (taskAt s k .place) InCheck)
 
   -- "every field in range"
-  in-range : inRange s ≡ true
-  unfolding inRange
-  in-range =
-      and-of _ _ (and-of _ _ (and-of _ _ (le-leb (s .running) 24 (g .shape .blank .running)) (le-leb (s .channel) 16 (g .shape .blank .channel)))
-      (to-all (λ k. taskInRange (s .directory .modules) (unitsOf s k) (taskAt s k)) 24 (λ k a b. of-range s k (stands k a b .fields) (request-low k a b))))
-      (to-all (λ r. requestInRange (requestAt s r)) 16 (λ r a b. of-request-range s r (g .shape .requests r a b)))
+  range : Ranges s
+  range =
+      record {
+        running = le-leb (s .running) 24 (g .shape .blank .running);
+        channel = le-leb (s .channel) 16 (g .shape .blank .channel);
+        tasks = to-all (taskRange s) 24 (λ k a b. of-range s k (stands k a b .fields) (request-low k a b));
+        requests = to-all (requestRange s) 16 (λ r a b. of-request-range s r (g .shape .requests r a b));
+      }
 
   -- "events on are defined"
   on-defined : onDefined s ≡ true
@@ -75,31 +64,35 @@ module _ {s : State} (g : Lawful s) where
   tasks-placed : tasksInPlace s ≡ true
   unfolding tasksInPlace
   tasks-placed =
-      to-all (λ k. taskPlaced s k) 24
+      to-all (taskStands s) 24
       (λ k a b. of-task-placed s k (g .shape .sizes .queues) (level-low k a b) (record { only = stands k a b .queued }) (stands k a b .runs))
 
   requests-placed : requestsInPlace s ≡ true
   unfolding requestsInPlace
-  requests-placed = to-all (λ r. requestPlace s r) 16 (λ r a b. of-carried s r (g .shape .requests r a b) (g .shape .sizes .queues))
+  requests-placed = to-all (requestStands s) 16 (λ r a b. of-carried s r (g .shape .requests r a b) (g .shape .sizes .queues))
 
-  free-sets : freeSets s ≡ true
-  unfolding freeSets
-  free-sets =
+  free : Sets s
+  free =
       let b = g .shape .blank in
-      and-of _ _ (and-of _ _ (and-of _ _ (and-of _ _ (and-of _ _
-      (to-all (λ k. Bool·beq (has (s .freeTasks) k) (eqb (taskAt s k .place) Free)) 24 (λ k a b. of-set (s .freeTasks) (taskAt s k .place) Free k (stands k a b .freeTasks)))
-      (to-all (λ r. Bool·beq (has (s .freeRequests) r) (eqb (requestAt s r .place) Free)) 16 (λ r a b. of-freeRequests s r (g .shape .requests r a b))))
-      (lt-ltb (s .freeTasks) (2 ^ 25) (b .freeTasks))) (has-not (s .freeTasks) (b .freeTasks-none))) (lt-ltb (s .freeRequests) (2 ^ 17) (b .freeRequests))) (has-not (s .freeRequests) (b .freeRequests-none))
+      record {
+        tasks = to-all (taskFree s) 24 (λ k a b. of-set (s .freeTasks) (taskAt s k .place) Free k (stands k a b .freeTasks));
+        requests = to-all (requestFree s) 16 (λ r a b. of-freeRequests s r (g .shape .requests r a b));
+        freeTasks = lt-ltb (s .freeTasks) (2 ^ 25) (b .freeTasks);
+        freeTasks-none = has-not (s .freeTasks) (b .freeTasks-none);
+        freeRequests = lt-ltb (s .freeRequests) (2 ^ 17) (b .freeRequests);
+        freeRequests-none = has-not (s .freeRequests) (b .freeRequests-none);
+      }
 
-  all-clear : fieldsClear s ≡ true
-  unfolding fieldsClear
-  all-clear =
+  clear : Clears s
+  clear =
       let b = g .shape .blank in
-      and-of _ _
-      (and-of _ _ (to-all (λ k. clearTask (unitsOf s k) (taskAt s k)) 24 (λ k a b. of-clear s k (stands k a b .fields)))
-      (to-all (λ r. clearRequest (requestAt s r)) 16 (λ r a b. of-request-clear s r (g .shape .requests r a b))))
-      (and-of _ _ (and-of _ _ (of-task-blank (b .block)) (of-request-blank (b .request)))
-      (eq-eqb (poolAt s 0) 0 (b .pool)))
+      record {
+        tasks = to-all (taskClear s) 24 (λ k a b. of-clear s k (stands k a b .fields));
+        requests = to-all (requestClear s) 16 (λ r a b. of-request-clear s r (g .shape .requests r a b));
+        task = of-task-blank (b .block);
+        request = of-request-blank (b .request);
+        pool = eq-eqb (poolAt s 0) 0 (b .pool);
+      }
 
   in-order : queuesInOrder s ≡ true
   unfolding queuesInOrder
@@ -107,11 +100,11 @@ module _ {s : State} (g : Lawful s) where
 
   core-needed : coreNeeded s ≡ true
   unfolding coreNeeded
-  core-needed = to-all (λ k. neededAt s k) 24 (λ k a b. of-needed s k (stands k a b .fields))
+  core-needed = to-all (neededAt s) 24 (λ k a b. of-needed s k (stands k a b .fields))
 
   all-owned : owned s ≡ true
   unfolding owned
-  all-owned = to-all (λ r. ownedAt s r) 16 (λ r a b. of-owned s r (g .shape .requests r a b))
+  all-owned = to-all (ownedAt s) 16 (λ r a b. of-owned s r (g .shape .requests r a b))
 
   checks : checksPending s ≡ true
   unfolding checksPending
@@ -129,14 +122,30 @@ module _ {s : State} (g : Lawful s) where
   all-linked : (p : ℕ) → 1 ≤ p → p ≤ 24 → children (s .tasks) p ≡ one (taskAt s p .place) InLink
   all-linked p a b = omega (arith, g .shape .links p a b, one-other p 0 (λ i. omega (arith, i, a)), ap (λ (x : ℕ). one x InLink) (rest-place s p))
 
-  every-rule : All (stateRules s)
-  unfolding stateRules
-  every-rule =
+  pub lawful-rules : Keeps s
+  lawful-rules =
       let b = g .shape .blank .block in
       let n = g .shape .sizes .tasks in
-      g .shape .directory .passes also in-range also on-defined also tasks-placed also requests-placed also free-sets also all-clear also of-core s n b (g .shape .core)
-      also of-ranked s (g .shape) also of-busy s (g .busy) also of-asleep s (g .rest .asleep) also of-stuck (g .shape) (g .rest .stuck) also in-order also of-levels (g .shape)
-      also core-needed also of-passes (g .shape) also of-links s n b all-linked also all-owned also checks also endings also of-flowing s (g .rest .flowing) also no-more
-
-  pub lawful-rules : allTrue (stateRules s) ≡ true
-  lawful-rules = every-rule .all
+      record {
+        directoryPasses = g .shape .directory .passes;
+        inRange = in-range s range;
+        onDefined = on-defined;
+        tasksInPlace = tasks-placed;
+        requestsInPlace = requests-placed;
+        freeSets = free-sets s free;
+        fieldsClear = all-clear s clear;
+        coreHeld = of-core s n b (g .shape .core);
+        chainsEnd = of-ranked s (g .shape);
+        idleOnlyIfNoneReady = of-busy s (g .busy);
+        eventsWait = of-asleep s (g .rest .asleep);
+        coreWaits = of-stuck (g .shape) (g .rest .stuck);
+        queuesInOrder = in-order;
+        ofTheirLevel = of-levels (g .shape);
+        coreNeeded = core-needed;
+        eventsPass = of-passes (g .shape);
+        linked = of-links s n b all-linked;
+        owned = all-owned;
+        checksPending = checks;
+        endingPending = endings;
+        channelBusy = of-flowing s (g .rest .flowing);
+      }

@@ -6,10 +6,7 @@ use Prim.Native.Nat.{ℕ}
 use lib.Dec.{eqb}
 use borrow.Author.Tests.{eq-eqb, ne-eqb}
 use Rattle.threads.proofs.Lists.{tested}
-use Rattle.words.proofs.Lists.{and-left, and-right}
-
-pub both : (a b : Bool) → (a && b) ≡ true → (a ≡ true) × (b ≡ true)
-both a b e = (and-left a b e, and-right a b e)
+pub use Rattle.meaning.proofs.Named.{both}
 
 pub and-of : (a b : Bool) → a ≡ true → b ≡ true → (a && b) ≡ true
 and-of a b e f = rw (e, f)

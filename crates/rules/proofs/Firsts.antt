@@ -17,7 +17,7 @@ use Rattle.tables.specs.State.{State, coreQueue, taskAt, poolAt, queue, levelOf
 use Rattle.meaning.specs.Ready.{startFor, fits}
 use Rattle.meaning.specs.Rules.{idleOnlyIfNoneReady, channelBusy}
 use Rattle.rules.specs.Orderly.{Orderly}
-use Rattle.rules.proofs.Places.{stands, in-queue, tasks-of, module-low}
+use Rattle.rules.proofs.Places.{in-queue, tasks-of, module-low}
 use Rattle.rules.proofs.Waiters.{of-core}
 
 pub three : (a b c : Bool) → (a && b && c) ≡ (a && (b && (c && true)))
@@ -79,7 +79,7 @@ module _ (t : Tables) (o : Orderly t) where
       let c : 1 ≤ count a (queue s (level + 3)) = omega (arith, ap (count a) e, count-hit a a m refl) in
       let i = in-queue t o (level + 3) a (omega arith) c in
       let n = tasks-of t o (level + 3) a (omega arith) c in
-      let z : levelOf s a ≡ level = of-core t o level l h a (n .1) (stands t o a (n .0) (n .1)) (i .0) in
+      let z : levelOf s a ≡ level = of-core t o level l h a (n .0) (n .1) (i .0) in
       rw (ne-eqb k 0 (omega (arith, n .0)), z, ← f)
 
   pub first-turn : {level k : ℕ} {b : Bool} → 1 ≤ level → level ≤ 3 → k ≡ first (level + 3) → b ≡ waits level k → b ≡ firstWaits s level

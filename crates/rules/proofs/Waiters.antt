@@ -1,6 +1,6 @@
 -- The rules over the blocks of one queue, told of the task blocks: a task block stands in a queue exactly where its place says so.
 use mathlib.Core.Bool.{Bool, true, false, not, _&&_}
-use mathlib.Core.Path.{_≡_, refl, sym, _∙_}
+use mathlib.Core.Path.{_≡_, refl, sym, ap, _∙_}
 use mathlib.Core.Logic.{⊎-elim}
 use mathlib.Core.List.{_++_}
 use Prim.Native.Nat.{ℕ, _+_, _≤_, _<_}
@@ -11,17 +11,18 @@ use borrow.Author.Tests.{eq-eqb}
 use Rattle.threads.proofs.Lists.{tested}
 use Rattle.words.specs.Words.{_implies_, allOf, standing, size}
 use Rattle.tables.specs.declared.Tables.{Tables}
+use Rattle.tables.specs.Blocks.{InEvent}
 use Rattle.tables.specs.State.{State, taskAt, queue, levelOf, readyQueue, coreQueue, read}
 use Rattle.meaning.specs.Conditions.{undefinedIn, enough}
-use Rattle.meaning.specs.Rules.{eventsWait, eventsPass, ofTheirLevel}
+use Rattle.meaning.specs.Rules.{queueFor, eventsWait, eventsPass, ofTheirLevel}
 use Rattle.fields.specs.Blocks.{waiterRight}
 use Rattle.rules.specs.Orderly.{Orderly}
-use Rattle.lawful.proofs.Truth.{and-of, both}
-use Rattle.lawful.proofs.Tests.{of-all, all-of}
+use Rattle.lawful.proofs.Truth.{and-of, both, implied}
+use Rattle.lawful.proofs.Tests.{of-all, all-of, to-all}
+use Rattle.lawful.proofs.Members.{by-queue}
 use Rattle.pointers.proofs.Tests.{all-append}
-use Rattle.fields.proofs.Parts.{Each, shown}
 use Rattle.pointers.proofs.Marks.{stands-here}
-use Rattle.rules.proofs.Places.{QueueOf, ready, core, event, time, none, given, stands, in-queue, tasks-of, level-fits}
+use Rattle.rules.proofs.Places.{stands, in-queue, tasks-of, level-fits}
 
 pub twice : (b : Bool) → not (not b) ≡ b
 twice true = refl
@@ -40,19 +41,14 @@ module _ (t : Tables) (o : Orderly t) where
     all-out : allOf p (queue s q) ≡ true → (k : ℕ) → standing k (s .queues) ≡ q → p k ≡ true
     all-out e k st = all-of p (queue s q) e k (stands-here (t .threads) (o .sound) q (omega arith) k st)
 
-  event-place : (k : ℕ) → k ≤ 24 → {p q : ℕ} → QueueOf p (levelOf s k) q → q ≡ 0 → p ≡ 4
-  event-place k h (ready a b) e = absurd (omega (arith, level-fits t o k h))
-  event-place k h (core a b) e = absurd (omega (arith, level-fits t o k h))
-  event-place k h (event a b) e = a
-  event-place k h (time a b) e = absurd (omega arith)
-  event-place k h (none a b c d f) e = absurd (omega arith)
+  event-place : (k : ℕ) → 1 ≤ k → k ≤ 24 → standing k (s .queues) ≡ 0 → taskAt s k .place ≡ InEvent
+  event-place k l h st =
+      by-queue (taskAt s k .place) (levelOf s k) 0 (stands t o k l h ∙ st) (omega arith) (λ a b. absurd (omega (arith, b, level-fits t o k h))) (λ a b. absurd (omega (arith, b)))
+      (λ a b. a) (λ a b. absurd (omega (arith, b)))
 
-  place-event : (k : ℕ) {p q : ℕ} → QueueOf p (levelOf s k) q → p ≡ 4 → q ≡ 0
-  place-event k (ready a b) e = absurd (omega arith)
-  place-event k (core a b) e = absurd (omega arith)
-  place-event k (event a b) e = b
-  place-event k (time a b) e = absurd (omega arith)
-  place-event k (none a b c d f) e = absurd (c e)
+  place-event : (k : ℕ) → 1 ≤ k → k ≤ 24 → taskAt s k .place ≡ InEvent → standing k (s .queues) ≡ 0
+  unfolding queueFor
+  place-event k l h e = sym (stands t o k l h) ∙ ap (λ (p : ℕ). queueFor p (levelOf s k)) e
 
   -- ---- event waiters
 
@@ -79,32 +75,33 @@ module _ (t : Tables) (o : Orderly t) where
   unfolding waiterRight defined within waits
   waiter-told k = refl
 
-  pub waiters : eventsWait s ≡ true → eventsPass s ≡ true → Each (λ k. waiterRight (t .directory .defined) (t .on) (taskAt s k)) 24
-  unfolding eventsPass
-  waiters w e =
-      record {
-        at = λ k l h.
-            waiter-told k
-            ∙ ⊎-elim
-            (λ z.
-            let st = place-event k (stands t o k l h) (z .1) in
-            rw (z .0)
-            (and-of (defined k && leb 1 (taskAt s k .count) && within k) (waits k)
-            (sym (pass-told k)
-            ∙ all-out
-            (λ k. not (undefinedIn s (taskAt s k .events)) && leb 1 (taskAt s k .count) && leb (taskAt s k .count) (size (taskAt s k .events)))
-            0 (omega arith) e k st)
-            (all-out waits 0 (omega arith) (sym waits-told ∙ w) k st)))
-            (λ z. rw (z .0)) (tested (taskAt s k .place) 4);
-      }
+  -- every task block is a right waiter, where it is one
+  abbrev pub Waiting : Type 0
+  Waiting = (k : ℕ) → 1 ≤ k → k ≤ 24 → waiterRight (t .directory .defined) (t .on) (taskAt s k) ≡ true
 
-  module _ (e : Each (λ k. waiterRight (t .directory .defined) (t .on) (taskAt s k)) 24) where
+  pub waiters : eventsWait s ≡ true → eventsPass s ≡ true → Waiting
+  unfolding eventsPass
+  waiters w e k l h =
+      waiter-told k
+      ∙ ⊎-elim
+      (λ z.
+      let st = place-event k l h (z .1) in
+      rw (z .0)
+      (and-of (defined k && leb 1 (taskAt s k .count) && within k) (waits k)
+      (sym (pass-told k)
+      ∙ all-out
+      (λ k. not (undefinedIn s (taskAt s k .events)) && leb 1 (taskAt s k .count) && leb (taskAt s k .count) (size (taskAt s k .events)))
+      0 (omega arith) e k st)
+      (all-out waits 0 (omega arith) (sym waits-told ∙ w) k st)))
+      (λ z. rw (z .0)) (tested (taskAt s k .place) 4)
+
+  module _ (e : Waiting) where
     four : (k : ℕ) → 1 ≤ k → k ≤ 24 → standing k (s .queues) ≡ 0
         → ((defined k && leb 1 (taskAt s k .count) && within k) ≡ true) × (waits k ≡ true)
     four k l h st =
         both _ _
-        (given (eqb (taskAt s k .place) 4) (defined k && leb 1 (taskAt s k .count) && within k && waits k) (sym (waiter-told k) ∙ e .at k l h)
-        (eq-eqb (taskAt s k .place) 4 (event-place k h (stands t o k l h) st)))
+        (implied (eqb (taskAt s k .place) 4) (defined k && leb 1 (taskAt s k .count) && within k && waits k) (sym (waiter-told k) ∙ e k l h)
+        (eq-eqb (taskAt s k .place) 4 (event-place k l h st)))
 
     pub events-wait : eventsWait s ≡ true
     events-wait = waits-told ∙ all-in waits 0 (omega arith) (λ k l h st. four k l h st .1)
@@ -118,31 +115,23 @@ module _ (t : Tables) (o : Orderly t) where
 
   -- ---- "ready and core queues hold their level's tasks": so do their places
 
-  module _ (level : ℕ) (low : 1 ≤ level) (high : level ≤ 3) (k : ℕ) (h : k ≤ 24) where
-    of-ready : {p q : ℕ} → QueueOf p (levelOf s k) q → q ≡ level → levelOf s k ≡ level
-    of-ready (ready a b) e = omega arith
-    of-ready (core a b) e = absurd (omega (arith, level-fits t o k h))
-    of-ready (event a b) e = absurd (omega arith)
-    of-ready (time a b) e = absurd (omega arith)
-    of-ready (none a b c d f) e = absurd (omega arith)
+  module _ (level : ℕ) (low : 1 ≤ level) (high : level ≤ 3) (k : ℕ) (l : 1 ≤ k) (h : k ≤ 24) where
+    of-ready : standing k (s .queues) ≡ readyQueue level → levelOf s k ≡ level
+    of-ready st =
+        by-queue (taskAt s k .place) (levelOf s k) level (stands t o k l h ∙ st) (omega arith) (λ a b. sym b) (λ a b. absurd (omega (arith, b, level-fits t o k h)))
+        (λ a b. absurd (omega (arith, b))) (λ a b. absurd (omega (arith, b)))
 
-    pub of-core : {p q : ℕ} → QueueOf p (levelOf s k) q → q ≡ level + 3 → levelOf s k ≡ level
-    of-core (ready a b) e = absurd (omega (arith, level-fits t o k h))
-    of-core (core a b) e = omega arith
-    of-core (event a b) e = absurd (omega arith)
-    of-core (time a b) e = absurd (omega arith)
-    of-core (none a b c d f) e = absurd (omega arith)
+    pub of-core : standing k (s .queues) ≡ coreQueue level → levelOf s k ≡ level
+    of-core st =
+        by-queue (taskAt s k .place) (levelOf s k) (level + 3) (stands t o k l h ∙ st) (omega arith) (λ a b. absurd (omega (arith, b, level-fits t o k h)))
+        (λ a b. omega (arith, b)) (λ a b. absurd (omega (arith, b))) (λ a b. absurd (omega (arith, b)))
 
   pub their-level : ofTheirLevel s ≡ true
   unfolding ofTheirLevel
   their-level =
-      shown (λ level. allOf (λ k. eqb (levelOf s k) level) (queue s (readyQueue level) ++ queue s (coreQueue level))) 3
-      (record {
-        at = λ level low high.
-            all-append (λ k. eqb (levelOf s k) level) (queue s (readyQueue level)) (queue s (coreQueue level))
-            ∙ and-of _ _
-            (all-in (λ k. eqb (levelOf s k) level) (readyQueue level) (omega arith)
-            (λ k l h st. eq-eqb _ _ (of-ready level low high k h (stands t o k l h) st)))
-            (all-in (λ k. eqb (levelOf s k) level) (coreQueue level) (omega arith)
-            (λ k l h st. eq-eqb _ _ (of-core level low high k h (stands t o k l h) st)));
-      })
+      to-all (λ level. allOf (λ k. eqb (levelOf s k) level) (queue s (readyQueue level) ++ queue s (coreQueue level))) 3
+      (λ level low high.
+      all-append (λ k. eqb (levelOf s k) level) (queue s (readyQueue level)) (queue s (coreQueue level))
+      ∙ and-of _ _
+      (all-in (λ k. eqb (levelOf s k) level) (readyQueue level) (omega arith) (λ k l h st. eq-eqb _ _ (of-ready level low high k l h st)))
+      (all-in (λ k. eqb (levelOf s k) level) (coreQueue level) (omega arith) (λ k l h st. eq-eqb _ _ (of-core level low high k l h st))))

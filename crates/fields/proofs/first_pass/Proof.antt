@@ -1,7 +1,9 @@
 -- The first pass is its parts, as the functions that it calls give them.
-use Rattle.fields.proofs.Gathered.{requests-marked, first-whole}
-use mathlib.Core.Path.{_∙_}
+use Rattle.meaning.proofs.Named.{joined, chain, chain-all}
 use Rattle.tables.specs.State.{read}
+use Rattle.fields.proofs.Gathered.{requests-marked}
+use mathlib.Core.Path.{_∙_}
+use Rattle.fields.specs.Blocks.{firstTests, firstPass}
 use borrow.Author.Needs.{needs}
 use Rattle.fields.proofs.first_pass.Statement.{statement}
 use Rattle.fields.proofs.first_pass.Tie as tie
@@ -37,13 +39,25 @@ tasks-requires : tie.Need-tasks-requires
 tasks-requires c κs = search needs
 
 returns : tie.Need-returns
+unfolding firstPass firstTests chain joined
 returns c =
-    let a = c .before .before .before .before .before .before .before .before .before .before .before .before .before .before in
-    first-whole (read (a .args .t1)) (c .before .before .before .before .before .before .before .before .before .before .directory-passes .ensures)
-    (c .before .before .before .before .before .before .before .before .has .ensures) (c .before .before .before .before .before .before .before .has2 .ensures)
-    (c .before .before .before .before .before .blank-task .ensures) (c .before .before .before .blank-request .ensures)
-    (c .before .before .before .before .before .before .before .before .before .before .before .before .requests2 .ensures .right ∙ requests-marked (a .args .t1) (a .pre))
-    (c .before .tasks .ensures)
+    let request = c .before .before .before in
+    let task = request .before .before in
+    let requests-none = task .before .before in
+    let tasks-none = requests-none .before in
+    let directory = tasks-none .before .before in
+    let asked = directory .before .before in
+    let given = asked .before .before in
+    rw (
+      directory .directory-passes .ensures,
+      tasks-none .has .ensures,
+      requests-none .has2 .ensures,
+      task .blank-task .ensures,
+      request .blank-request .ensures,
+      asked .requests2 .ensures .right ∙ requests-marked (given .args .t1) (given .pre),
+      c .tasks .ensures,
+    )
+    (chain-all (firstTests (read (given .args .t1))))
 
 pub first-pass-spec : {M : Type 1} → statement M
 first-pass-spec =
