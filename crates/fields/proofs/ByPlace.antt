@@ -96,15 +96,13 @@ module _ (units defined on : ℕ) (own some : Bool) (x : Task) where
       rw (i, ne-eqb (x .place) 3 c, ne-eqb (x .place) 4 e, ne-eqb (x .place) 5 t, ne-eqb (x .place) 7 k, ne-eqb (x .place) 8 d)
       (simp known (simp flat))
 
--- ---- A used task block: the tests that every place has stand before those of its place.
+-- ---- A used task block: the tests that every place has stand before those of its place. Three stand elsewhere among the rules; what stands between them stays.
 
-in-order : (place request stands parent core program run : Bool) (units start events time zero needs waits pends : Bool)
-    → ((place && parent && core && request && program && run) && (units && start && events && time && zero) && needs && stands && waits && pends)
-    ≡ (parent && core && program && (run && units && start) && stands && (place && events && time && (request && zero) && needs && waits && pends))
-in-order true true true a b c d e f g h i j k l = simp flat
-in-order true true false a b c d e f g h i j k l = simp and-none
-in-order true false z a b c d e f g h i j k l = simp and-none
-in-order false y z a b c d e f g h i j k l = simp and-none
+in-order : (place request stands a b c d e : Bool) → (place && a && request && b && c && d && stands && e) ≡ (a && b && stands && place && c && request && d && e)
+in-order true true true a b c d e = simp flat
+in-order true true false a b c d e = simp and-none
+in-order true false z a b c d e = simp and-none
+in-order false y z a b c d e = simp and-none
 
 module _ (modules defined on stands level units : ℕ) (runs free own some : Bool) (x : Task) where
   pub used-whole : x .place ≢ 0
@@ -113,16 +111,13 @@ module _ (modules defined on stands level units : ℕ) (runs free own some : Boo
       ≡ (fieldsRight modules units x && placeRight stands level runs free x && waiterRight defined on x && pendingRight own some x)
   used-whole n =
       let needs = ltb 0 units && eqb (x .core) 0 in
-      rw (ne-eqb (x .place) 0 n)
-      (sym
-      (in-order (leb (x .place) 8) (leb (x .request) 16)
+      rw (ne-eqb (x .place) 0 n) (simp flat (simp flat at (sym (in-order (leb (x .place) 8) (leb (x .request) 16)
       (eqb stands (queueFor (x .place) level) && Bool·beq runs (eqb (x .place) 1) && Bool·beq free false)
-      (leb (x .parent) 24) (leb (x .core) 2) (ltb (x .program) modules)
-      (eqb (x .core) 1 implies leb (x .start + units) 64) (eqb units 0 implies eqb (x .core) 0) (not (eqb (x .core) 1) implies eqb (x .start) 0)
-      (not (eqb (x .place) InEvent) implies (eqb (x .count) 0 && eqb (x .events) 0)) (not (eqb (x .place) InTime) implies eqb (x .time) 0)
-      (not (eqb (x .place) InCheck) implies eqb (x .request) 0)
-      ((eqb (x .place) InCore implies needs) && (needs implies (eqb (x .place) InCore || eqb (x .place) InEvent || eqb (x .place) InTime)))
-      (waiterRight defined on x) (pendingRight own some x)))
+      (leb (x .parent) 24 && leb (x .core) 2) (ltb (x .program) modules && coreRight units x)
+      ((not (eqb (x .place) InEvent) implies (eqb (x .count) 0 && eqb (x .events) 0)) && (not (eqb (x .place) InTime) implies eqb (x .time) 0))
+      ((not (eqb (x .place) InCheck) implies eqb (x .request) 0)
+      && ((eqb (x .place) InCore implies needs) && (needs implies (eqb (x .place) InCore || eqb (x .place) InEvent || eqb (x .place) InTime))))
+      (waiterRight defined on x && pendingRight own some x)))))
 
 -- ---- A request block.
 

@@ -22,7 +22,7 @@ use Rattle.meaning.specs.Finish.{pendingOf, pending}
 use Rattle.meaning.specs.Channel.{channelLevel}
 use Rattle.meaning.specs.Rules.{onDefined, tasksInPlace, requestsInPlace, queuesInOrder, coreNeeded, owned, checksPending, endingPending, queueFor}
 use Rattle.meaning.proofs.Rules.{Keeps}
-use Rattle.meaning.proofs.Parts.{taskRange, requestRange, taskStands, requestStands, taskFree, requestFree, taskClear, requestClear, Ranges, ranges, Sets, sets, Clears, clears}
+use Rattle.meaning.proofs.Parts.{taskRange, requestRange, taskStands, requestStands, taskFree, requestFree, taskClear, requestClear, Ranges, ranges, Sets, sets, Clears, clears, task-range}
 use Rattle.lawful.specs.Shape.{one, placeOf, Fields, Stands, Carried, Sizes, Blank, Shape}
 use Rattle.lawful.specs.Resting.{Lawful}
 use Rattle.lawful.proofs.Shape.{one-same, one-other, rest-place}
@@ -32,7 +32,7 @@ use Rattle.lawful.proofs.Standing.{in-some}
 use Rattle.lawful.proofs.Directory.{passing}
 use Rattle.lawful.proofs.Blanks.{task-blank, request-blank}
 use Rattle.lawful.proofs.PlaceRules.{task-placed}
-use Rattle.lawful.proofs.TaskRules.{neededAt, in-range, fields-of}
+use Rattle.lawful.proofs.TaskRules.{neededAt, fields-of}
 use Rattle.lawful.proofs.RequestRules.{ownedAt, carried-of}
 use Rattle.lawful.proofs.CoreRules.{core-of, links-of}
 use Rattle.lawful.proofs.Chains.{ranked-of}
@@ -93,7 +93,7 @@ module _ (s : State) (z : Sizes s) (low : (level : ℕ) → poolAt s level < 2 ^
         (let w = rw i at (in-queue eventQueue (omega arith)) in omega (arith, w, one-same 0 0 refl)))
 
     request-low : taskAt s k .request ≤ 16
-    request-low = in-range s k (all-to (taskRange s) 24 (range .tasks) k a b) .5
+    request-low = leb-true _ _ (task-range (s .directory .modules) (unitsOf s k) (taskAt s k) (all-to (taskRange s) 24 (range .tasks) k a b) .request)
 
     -- "CHECK waits for an own pending request", which is no block 0
     checked : taskAt s k .place ≡ InCheck → pendingOf s k (taskAt s k .request) ≡ true

@@ -2,7 +2,7 @@
 use mathlib.Core.Bool.{Bool, true, false, cond, not, _&&_, _||_, true≢false}
 use mathlib.Core.Path.{_≡_, refl, sym, ap, _∙_}
 use mathlib.Core.Logic.{_≢_}
-use Prim.Native.Nat.{ℕ, _+_, _≤_, _<_}
+use Prim.Native.Nat.{ℕ, _+_, _≤_}
 use native.Mathlib.Omega.{arith}
 use lib.Bits.{bitAnd}
 use lib.Dec.{eqb, leb, ltb}
@@ -12,7 +12,8 @@ use Rattle.tables.specs.declared.Task.{Task}
 use Rattle.tables.specs.Blocks.{Free, InCore, InEvent, InTime, InCheck, inPlace}
 use Rattle.tables.specs.State.{State, taskAt, unitsOf}
 use Rattle.meaning.specs.Ready.{needsCore}
-use Rattle.meaning.specs.Rules.{taskInRange, blankTask, clearTask}
+use Rattle.meaning.specs.Rules.{blankTask}
+use Rattle.meaning.proofs.Parts.{taskRange, taskClear, task-range, task-in-range, task-clear, clear-task}
 use Rattle.lawful.specs.Shape.{cleared, Fields}
 use Rattle.lawful.proofs.Truth.{both, and-of, implied, of-implied, not-eq, unlike, one-of-three}
 use Rattle.lawful.proofs.Cases.{needs, needs-true}
@@ -48,26 +49,7 @@ of-meant-both true m n e f = refl
 of-meant-both false m n e f = and-of _ _ (eq-eqb m 0 e) (eq-eqb n 0 f)
 
 -- ---- The tests, and what they give.
-module _ (s : State) (k : ℕ) (r : taskInRange (s .directory .modules) (unitsOf s k) (taskAt s k) ≡ true) where
-  pub in-range : (taskAt s k .place ≤ 8) × (taskAt s k .parent ≤ 24) × (taskAt s k .core ≤ 2) × (taskAt s k .place ≢ Free → taskAt s k .program < s .directory .modules)
-      × (taskAt s k .core ≡ 1 → taskAt s k .start + unitsOf s k ≤ 64) × (taskAt s k .request ≤ 16)
-  in-range =
-      let t = taskAt s k in
-      let a = both _ _ r in
-      let b = both _ _ (a .0) in
-      let c = both _ _ (b .0) in
-      let d = both _ _ (c .0) in
-      let e = both _ _ (d .0) in (
-        leb-true _ _ (e .0),
-        leb-true _ _ (e .1),
-        leb-true _ _ (d .1),
-        λ z. ltb-true _ _ (implied (not (eqb (t .place) Free)) (ltb (t .program) (s .directory .modules)) (b .1) (not-eq _ _ z)),
-        λ z. leb-true _ _ (implied (eqb (t .core) 1) (leb (t .start + unitsOf s k) 64) (a .1) (eq-eqb _ _ z)),
-        leb-true _ _ (c .1),
-      )
-
-module _ (s : State) (k : ℕ) (r : taskInRange (s .directory .modules) (unitsOf s k) (taskAt s k) ≡ true) (c : clearTask (unitsOf s k) (taskAt s k) ≡ true) (n : neededAt s k ≡ true)
-    (v : taskAt s k .place ≡ InEvent → Passes s k) where
+module _ (s : State) (k : ℕ) (r : taskRange s k ≡ true) (c : taskClear s k ≡ true) (n : neededAt s k ≡ true) (v : taskAt s k .place ≡ InEvent → Passes s k) where
   -- a task that still needs core is in a place where it may
   only : 1 ≤ unitsOf s k → taskAt s k .core ≡ 0 → (q : ℕ) → q ≢ 0 → (eqb q InCore || eqb q InEvent || eqb q InTime) ≡ false → taskAt s k .place ≢ q
   only x y q d f z =
@@ -80,26 +62,22 @@ module _ (s : State) (k : ℕ) (r : taskInRange (s .directory .modules) (unitsOf
   pub fields-of : Fields (s .directory) (taskAt s k .place) (taskAt s k)
   fields-of =
       let t = taskAt s k in
-      let i = in-range s k r in
-      let a = both _ _ c in
-      let b = both _ _ (a .0) in
-      let d = both _ _ (b .0) in
-      let e = both _ _ (d .0) in
-      let f = both _ _ (e .0) in
+      let i = task-range (s .directory .modules) (unitsOf s k) t r in
+      let w = task-clear (unitsOf s k) t c in
+      let e = meant-both (eqb (t .place) InEvent) (t .count) (t .events) (w .event) in
       let m = both (eqb (t .place) InCore implies needsCore s k) _ n in
-      let w = meant-both (eqb (t .place) InEvent) (t .count) (t .events) (d .1) in
       record {
-        place = i .0;
-        free = λ z. task-blank t (implied (eqb (t .place) Free) (blankTask t) (f .0) (eq-eqb _ _ z));
-        program = i .3;
-        parent = i .1;
-        core = i .2;
-        inside = i .4;
-        start = λ z. eqb-true (t .start) 0 (implied (not (eqb (t .core) 1)) (eqb (t .start) 0) (e .1) (not-eq _ _ z));
-        unneeded = λ z. eqb-true (t .core) 0 (implied (eqb (unitsOf s k) 0) (eqb (t .core) 0) (f .1) (eq-eqb _ _ z));
+        place = leb-true _ _ (i .place);
+        free = λ z. task-blank t (implied (eqb (t .place) Free) (blankTask t) (w .free) (eq-eqb _ _ z));
+        program = λ z. ltb-true _ _ (implied (not (eqb (t .place) Free)) (ltb (t .program) (s .directory .modules)) (i .program) (not-eq _ _ z));
+        parent = leb-true _ _ (i .parent);
+        core = leb-true _ _ (i .core);
+        inside = λ z. leb-true _ _ (implied (eqb (t .core) 1) (leb (t .start + unitsOf s k) 64) (i .run) (eq-eqb _ _ z));
+        start = λ z. eqb-true (t .start) 0 (implied (not (eqb (t .core) 1)) (eqb (t .start) 0) (w .start) (not-eq _ _ z));
+        unneeded = λ z. eqb-true (t .core) 0 (implied (eqb (unitsOf s k) 0) (eqb (t .core) 0) (w .core) (eq-eqb _ _ z));
         waits = λ z. needs-true s k (implied (eqb (t .place) InCore) (needsCore s k) (m .0) (eq-eqb _ _ z));
         needs = λ x y. let o = only x y in (o 1 (λ z. omega (arith, z)) refl, o 2 (λ z. omega (arith, z)) refl, o 6 (λ z. omega (arith, z)) refl, o 7 (λ z. omega (arith, z)) refl, o 8 (λ z. omega (arith, z)) refl);
-        clear = λ n j. inPlace t (t .place) (w .0 j) (w .1 j) (meant (eqb (t .place) InTime) (t .time) (b .1) j) (meant (eqb (t .place) InCheck) (t .request) (a .1) j);
+        clear = λ n j. inPlace t (t .place) (e .0 j) (e .1 j) (meant (eqb (t .place) InTime) (t .time) (w .time) j) (meant (eqb (t .place) InCheck) (t .request) (w .request) j);
         passes = λ z. (v z .events, v z .some, v z .most);
       }
 
@@ -112,12 +90,17 @@ highest-five : (p : ℕ) → p ≤ 8 → p ≢ 6 → p ≢ 7 → p ≢ 8 → p �
 highest-five p h a b c = omega arith
 
 module _ (s : State) (k : ℕ) (f : Fields (s .directory) (taskAt s k .place) (taskAt s k)) where
-  pub of-range : taskAt s k .request ≤ 16 → taskInRange (s .directory .modules) (unitsOf s k) (taskAt s k) ≡ true
+  pub of-range : taskAt s k .request ≤ 16 → taskRange s k ≡ true
   of-range q =
       let t = taskAt s k in
-      and-of _ _ (and-of _ _ (and-of _ _ (and-of _ _ (and-of _ _ (le-leb (t .place) 8 (f .place)) (le-leb (t .parent) 24 (f .parent))) (le-leb (t .core) 2 (f .core))) (le-leb (t .request) 16 q))
-      (of-implied (not (eqb (t .place) Free)) (ltb (t .program) (s .directory .modules)) (λ z. lt-ltb _ _ (f .program (unlike _ _ z)))))
-      (of-implied (eqb (t .core) 1) (leb (t .start + unitsOf s k) 64) (λ z. le-leb _ _ (f .inside (eqb-true _ _ z))))
+      task-in-range (s .directory .modules) (unitsOf s k) t (record {
+        place = le-leb (t .place) 8 (f .place);
+        parent = le-leb (t .parent) 24 (f .parent);
+        core = le-leb (t .core) 2 (f .core);
+        request = le-leb (t .request) 16 q;
+        program = of-implied (not (eqb (t .place) Free)) (ltb (t .program) (s .directory .modules)) (λ z. lt-ltb _ _ (f .program (unlike _ _ z)));
+        run = of-implied (eqb (t .core) 1) (leb (t .start + unitsOf s k) 64) (λ z. le-leb _ _ (f .inside (eqb-true _ _ z)));
+      })
 
   clear-of : taskAt s k ≡ cleared (taskAt s k .place) (taskAt s k)
   clear-of = f .clear (λ z. omega (arith, f .place, z))
@@ -125,16 +108,17 @@ module _ (s : State) (k : ℕ) (f : Fields (s .directory) (taskAt s k .place) (t
   pub no-request : taskAt s k .place ≢ InCheck → taskAt s k .request ≡ 0
   no-request n = ap (λ (t : Task). t .request) clear-of ∙ ap (λ (b : Bool). cond b (taskAt s k .request) 0) (ne-eqb _ InCheck n)
 
-  pub of-clear : clearTask (unitsOf s k) (taskAt s k) ≡ true
+  pub of-clear : taskClear s k ≡ true
   of-clear =
       let t = taskAt s k in
-      and-of _ _ (and-of _ _ (and-of _ _ (and-of _ _ (and-of _ _
-      (of-implied (eqb (t .place) Free) _ (λ z. of-task-blank (f .free (eqb-true _ _ z))))
-      (of-implied (eqb (unitsOf s k) 0) (eqb (t .core) 0) (λ z. eq-eqb _ 0 (f .unneeded (eqb-true _ _ z)))))
-      (of-implied (not (eqb (t .core) 1)) (eqb (t .start) 0) (λ z. eq-eqb _ 0 (f .start (unlike _ _ z)))))
-      (of-meant-both (eqb (t .place) InEvent) (t .count) (t .events) (ap (λ (x : Task). x .count) clear-of) (ap (λ (x : Task). x .events) clear-of)))
-      (of-meant (eqb (t .place) InTime) (t .time) (ap (λ (x : Task). x .time) clear-of)))
-      (of-meant (eqb (t .place) InCheck) (t .request) (ap (λ (x : Task). x .request) clear-of))
+      clear-task (unitsOf s k) t (record {
+        free = of-implied (eqb (t .place) Free) _ (λ z. of-task-blank (f .free (eqb-true _ _ z)));
+        core = of-implied (eqb (unitsOf s k) 0) (eqb (t .core) 0) (λ z. eq-eqb _ 0 (f .unneeded (eqb-true _ _ z)));
+        start = of-implied (not (eqb (t .core) 1)) (eqb (t .start) 0) (λ z. eq-eqb _ 0 (f .start (unlike _ _ z)));
+        event = of-meant-both (eqb (t .place) InEvent) (t .count) (t .events) (ap (λ (x : Task). x .count) clear-of) (ap (λ (x : Task). x .events) clear-of);
+        time = of-meant (eqb (t .place) InTime) (t .time) (ap (λ (x : Task). x .time) clear-of);
+        request = of-meant (eqb (t .place) InCheck) (t .request) (ap (λ (x : Task). x .request) clear-of);
+      })
 
   -- by the places that are left
   may : (p : ℕ) → p ≤ 8 → p ≢ Free → (p ≢ 1) × (p ≢ 2) × (p ≢ 6) × (p ≢ 7) × (p ≢ 8) → (eqb p InCore || eqb p InEvent || eqb p InTime) ≡ true
