@@ -4,7 +4,7 @@
 -- That the code does exactly that is said by its contracts, which are proved of it, have no `requires` and leave no second answer (proofs/Unique.antt of those crates):
 --   `executive::load`     of any bytes, the tables and the answer are those of `tablesOf` and `loadOf`
 --   `executive::step`     of any tables and any bytes, the tables and the answer are those of `stepOf`
---   `executive::advance`  the tables that are lent are left as those of `stepOf`, and the three numbers are its line
+--   `executive::khilzurgee_advance`  the tables that are lent are left as those of `stepOf`, and the three numbers are its line
 --   `executive::line`     the three numbers are `lineOf`
 --   `image::load`         of any bytes, the answer and the directory are `loadOf`
 --   `image::write`        of any directory and any buffer, the answer and the buffer as it is left are `writeOf`
