@@ -7,15 +7,15 @@ use native.Mathlib.Omega.{arith}
 use lib.ListN.{length, getD}
 use Rattle.words.proofs.Lists.{and-left, and-right}
 use Rattle.compose.specs.Calls.{codeOrNone}
-use Rattle.compose.specs.declared.verbs.Verb.{Verb}
+use Rattle.compose.specs.declared.verbs.Row.{Row}
 
 -- every code of the table is one of document 01's, or 0
-unfoldable pub allKnown : List Verb → Bool
+unfoldable pub allKnown : List Row → Bool
 allKnown [] = true
-allKnown (v ∷ l) = codeOrNone (v .code) && allKnown l
+allKnown (v ∷ l) = codeOrNone (v .1) && allKnown l
 
-pub row-known : (table : List Verb) (i : ℕ) (none : Verb) → i < length table → allKnown table ≡ true → codeOrNone ((getD table i none) .code) ≡ true
+pub row-known : (table : List Row) (i : ℕ) (none : Row) → i < length table → allKnown table ≡ true → codeOrNone ((getD table i none) .1) ≡ true
 unfolding allKnown
 row-known [] i none low all = absurd (omega arith)
-row-known (v ∷ l) zero none low all = and-left (codeOrNone (v .code)) (allKnown l) all
-row-known (v ∷ l) (suc i) none low all = row-known l i none (omega arith) (and-right (codeOrNone (v .code)) (allKnown l) all)
+row-known (v ∷ l) zero none low all = and-left (codeOrNone (v .1)) (allKnown l) all
+row-known (v ∷ l) (suc i) none low all = row-known l i none (omega arith) (and-right (codeOrNone (v .1)) (allKnown l) all)

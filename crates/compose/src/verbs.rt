@@ -25,122 +25,43 @@ pub enum Shape {
     Done,
 }
 
-// A first word, filled up with blanks; the code of its call, 0 for none; what follows it.
+// The code of a line's call, 0 for none, and what follows its first word.
 pub struct Verb {
-    pub word: [u8; 8],
     pub code: u8,
     pub shape: Shape,
 }
 
+// A row: the first word, filled up with blanks; the code; what follows.
+struct Row([u8; 8], u8, Shape);
+
 // A new line of a session is a row, here and in docs/WORDS.md.
-const VERBS: [Verb; 20] = [
-    Verb {
-        word: *b"every   ",
-        code: 0,
-        shape: Shape::Every,
-    },
-    Verb {
-        word: *b"events  ",
-        code: 0,
-        shape: Shape::Events,
-    },
-    Verb {
-        word: *b"module  ",
-        code: 0,
-        shape: Shape::Module,
-    },
-    Verb {
-        word: *b"call    ",
-        code: 0,
-        shape: Shape::Call,
-    },
-    Verb {
-        word: *b"freemain",
-        code: 1,
-        shape: Shape::Bare,
-    },
-    Verb {
-        word: *b"link    ",
-        code: 5,
-        shape: Shape::Number,
-    },
-    Verb {
-        word: *b"end     ",
-        code: 6,
-        shape: Shape::Bare,
-    },
-    Verb {
-        word: *b"schedule",
-        code: 7,
-        shape: Shape::Scheduled,
-    },
-    Verb {
-        word: *b"wait    ",
-        code: 8,
-        shape: Shape::Condition,
-    },
-    Verb {
-        word: *b"signal  ",
-        code: 9,
-        shape: Shape::Switch,
-    },
-    Verb {
-        word: *b"test    ",
-        code: 10,
-        shape: Shape::Number,
-    },
-    Verb {
-        word: *b"dispatch",
-        code: 12,
-        shape: Shape::Check,
-    },
-    Verb {
-        word: *b"read    ",
-        code: 13,
-        shape: Shape::Device,
-    },
-    Verb {
-        word: *b"write   ",
-        code: 14,
-        shape: Shape::Device,
-    },
-    Verb {
-        word: *b"check   ",
-        code: 15,
-        shape: Shape::Number,
-    },
-    Verb {
-        word: *b"timer   ",
-        code: 32,
-        shape: Shape::Bare,
-    },
-    Verb {
-        word: *b"io      ",
-        code: 33,
-        shape: Shape::Done,
-    },
-    Verb {
-        word: *b"program ",
-        code: 34,
-        shape: Shape::Check,
-    },
-    Verb {
-        word: *b"start   ",
-        code: 35,
-        shape: Shape::Number,
-    },
-    Verb {
-        word: *b"        ",
-        code: 0,
-        shape: Shape::Unknown,
-    },
+const ROWS: [Row; 19] = [
+    Row(*b"every   ", 0, Shape::Every),
+    Row(*b"events  ", 0, Shape::Events),
+    Row(*b"module  ", 0, Shape::Module),
+    Row(*b"call    ", 0, Shape::Call),
+    Row(*b"freemain", 1, Shape::Bare),
+    Row(*b"link    ", 5, Shape::Number),
+    Row(*b"end     ", 6, Shape::Bare),
+    Row(*b"schedule", 7, Shape::Scheduled),
+    Row(*b"wait    ", 8, Shape::Condition),
+    Row(*b"signal  ", 9, Shape::Switch),
+    Row(*b"test    ", 10, Shape::Number),
+    Row(*b"dispatch", 12, Shape::Check),
+    Row(*b"read    ", 13, Shape::Device),
+    Row(*b"write   ", 14, Shape::Device),
+    Row(*b"check   ", 15, Shape::Number),
+    Row(*b"timer   ", 32, Shape::Bare),
+    Row(*b"io      ", 33, Shape::Done),
+    Row(*b"program ", 34, Shape::Check),
+    Row(*b"start   ", 35, Shape::Number),
 ];
 
-fn row(i: usize) -> Verb
-    requires { ⌜ i < 20 ⌝ }
-    ensures { λ r. ⌜ codeOrNone (r .code) ≡ true ⌝ }
+fn at(i: usize) -> Row
+    requires { ⌜ i < 19 ⌝ }
+    ensures { λ r. ⌜ codeOrNone (r .1) ≡ true ⌝ }
 {
-    VERBS[i]
+    ROWS[i]
 }
 
 // Whether a row's word is this one.
@@ -153,19 +74,26 @@ fn is(line: &[u8], w: Word, name: [u8; 8]) -> bool
     scan::named(line, w, &name[from..to])
 }
 
-// The row of a line's first word; the last one where no other has it.
+// The row of a line's first word; of no shape where none has it.
 pub fn find(line: &[u8], w: Word) -> Verb
     requires { ⌜ Within (now line) 0 w ⌝ }
     ensures { λ r. ⌜ codeOrNone (r .code) ≡ true ⌝ }
 {
     let mut i: usize = 0;
     while i < 19 {
-        let verb = row(i);
-        let name = verb.word;
+        let row = at(i);
+        let name = row.0;
         if is(line, w, name) {
-            return verb;
+            let shape = row.2;
+            return Verb {
+                code: row.1,
+                shape: shape,
+            };
         }
         i += 1;
     }
-    row(19)
+    Verb {
+        code: 0,
+        shape: Shape::Unknown,
+    }
 }
