@@ -1,2 +1,3 @@
 pub mod Loaded
 pub mod Once
+pub mod Deeds
