@@ -12,7 +12,6 @@ use tests::bad_events;
 use tests::bad_kind;
 use tests::bad_value;
 use tests::either;
-use tests::held;
 use tests::past_end;
 use tests::undefined;
 ghost use mathlib.Core.Path.{_≡_};
@@ -35,8 +34,10 @@ pub fn first(t: Tables, c: Call) -> u8
 fn by_code(t: Tables, c: Call) -> u8
     ensures { λ r. ⌜ r ≡ firstOf (codeRows (read t) c) ⌝ }
 {
-    let r = next(0, 24, !codes::is_known(c.code));
-    next(r, 11, codes::needs_task(c.code) & (t.running == 0))
+    let mut r: u8 = 0;
+    r = next(r, 24, !codes::is_known(c.code));
+    r = next(r, 11, codes::needs_task(c.code) & (t.running == 0));
+    r
 }
 
 // What the call names.
@@ -45,8 +46,10 @@ fn by_names(t: Tables, c: Call) -> u8
 {
     let starts = tests::starts(c);
     let tells = either(c.code, codes::SIGNAL, codes::TEST_EVENT);
-    let r = next(0, 12, starts & (t.directory.modules <= c.number as u32));
-    next(r, 19, tells & undefined(t.directory.defined, c.number))
+    let mut r: u8 = 0;
+    r = next(r, 12, starts & (t.directory.modules <= c.number as u32));
+    r = next(r, 19, tells & undefined(t.directory.defined, c.number));
+    r
 }
 
 // What it carries.
@@ -55,13 +58,12 @@ fn by_carried(t: Tables, c: Call) -> u8
 {
     let transfers = either(c.code, codes::READ, codes::WRITE);
     let requests = t.requests;
-    let mut r = next(0, 22, transfers & (249 < c.number));
+    let held = tests::held(requests, c.number, t.running);
+    let mut r: u8 = 0;
+    r = next(r, 22, transfers & (249 < c.number));
     r = next(r, 23, transfers & bad_count(c.amount) | bad_value(c));
-    next(
-        r,
-        18,
-        (c.code == codes::CHECK) & !held(requests, c.number, t.running),
-    )
+    r = next(r, 18, (c.code == codes::CHECK) & !held);
+    r
 }
 
 // Its condition.
@@ -69,9 +71,11 @@ fn by_condition(t: Tables, c: Call) -> u8
     ensures { λ r. ⌜ r ≡ firstOf (conditionRows (read t) c) ⌝ }
 {
     let waits = either(c.code, codes::SCHEDULE, codes::WAIT);
-    let mut r = next(0, 13, waits & bad_kind(t.directory.defined, c));
+    let mut r: u8 = 0;
+    r = next(r, 13, waits & bad_kind(t.directory.defined, c));
     r = next(r, 14, waits & (c.kind == 1) & bad_events(c.value, c.events));
-    next(r, 15, waits & (c.kind == 3) & past_end(t.clock, c.amount))
+    r = next(r, 15, waits & (c.kind == 3) & past_end(t.clock, c.amount));
+    r
 }
 
 // What the tables still have.
@@ -80,10 +84,12 @@ fn by_room(t: Tables, c: Call) -> u8
 {
     let starts = tests::starts(c);
     let transfers = either(c.code, codes::READ, codes::WRITE);
-    let mut r = next(0, 16, starts & (t.freeTasks == 0));
+    let mut r: u8 = 0;
+    r = next(r, 16, starts & (t.freeTasks == 0));
     r = next(r, 17, transfers & (t.freeRequests == 0));
     r = next(r, 20, (c.code == codes::IO_DONE) & (t.channel == 0));
-    next(r, 21, (c.code == codes::TIMER) & (t.clock == CLOCK_END))
+    r = next(r, 21, (c.code == codes::TIMER) & (t.clock == CLOCK_END));
+    r
 }
 
 // The first so far, and where there is none what is found later.
