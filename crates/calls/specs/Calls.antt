@@ -26,19 +26,64 @@ callOf b =
 
 -- "Service calls need a running task: 1 FREEMAIN, 5 LINK, 6 END, 7 SCHEDULE, 8 WAIT, 9 SIGNAL, 10 TEST EVENT, 12 DISPATCH CHECK, 13 READ,
 -- 14 WRITE, 15 CHECK."
+abbrev pub FREEMAIN : ℕ
+FREEMAIN = 1
+
+abbrev pub LINK : ℕ
+LINK = 5
+
+abbrev pub END : ℕ
+END = 6
+
+abbrev pub SCHEDULE : ℕ
+SCHEDULE = 7
+
+abbrev pub WAIT : ℕ
+WAIT = 8
+
+abbrev pub SIGNAL : ℕ
+SIGNAL = 9
+
+abbrev pub TEST-EVENT : ℕ
+TEST-EVENT = 10
+
+abbrev pub DISPATCH-CHECK : ℕ
+DISPATCH-CHECK = 12
+
+abbrev pub READ : ℕ
+READ = 13
+
+abbrev pub WRITE : ℕ
+WRITE = 14
+
+abbrev pub CHECK : ℕ
+CHECK = 15
+
 abbrev pub services : List ℕ
-services = 1 ∷ 5 ∷ 6 ∷ 7 ∷ 8 ∷ 9 ∷ 10 ∷ 12 ∷ 13 ∷ 14 ∷ 15 ∷ []
+services = FREEMAIN ∷ LINK ∷ END ∷ SCHEDULE ∷ WAIT ∷ SIGNAL ∷ TEST-EVENT ∷ DISPATCH-CHECK ∷ READ ∷ WRITE ∷ CHECK ∷ []
 
 -- "Interrupts: 32 timer, 33 I/O done, 34 program check (needs a running task), 35 operator start."
+abbrev pub TIMER : ℕ
+TIMER = 32
+
+abbrev pub IO-DONE : ℕ
+IO-DONE = 33
+
+abbrev pub PROGRAM-CHECK : ℕ
+PROGRAM-CHECK = 34
+
+abbrev pub OPERATOR-START : ℕ
+OPERATOR-START = 35
+
 abbrev pub interrupts : List ℕ
-interrupts = 32 ∷ 33 ∷ 34 ∷ 35 ∷ []
+interrupts = TIMER ∷ IO-DONE ∷ PROGRAM-CHECK ∷ OPERATOR-START ∷ []
 
 -- "A fixed table over the codes 0 to 35 says whether a code is known and whether it needs a running task."
 unfoldable pub known : ℕ → Bool
 known code = code among services || code among interrupts
 
 unfoldable pub needsTask : ℕ → Bool
-needsTask code = code among services || eqb code 34
+needsTask code = code among services || eqb code PROGRAM-CHECK
 
 -- "An answer has three numbers: refusal (0 if accepted), result, running task afterwards (0 if idle)." A refused call "names the running task unchanged
 -- (0 with refusal 9)".

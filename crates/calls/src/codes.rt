@@ -2,6 +2,37 @@
 ghost use mathlib.Core.Path.{_≡_};
 ghost use Rattle.calls.specs.Calls.{known, needsTask, codeEntry};
 
+// The codes.
+pub const FREEMAIN: u8 = 1;
+
+pub const LINK: u8 = 5;
+
+pub const END: u8 = 6;
+
+pub const SCHEDULE: u8 = 7;
+
+pub const WAIT: u8 = 8;
+
+pub const SIGNAL: u8 = 9;
+
+pub const TEST_EVENT: u8 = 10;
+
+pub const DISPATCH_CHECK: u8 = 12;
+
+pub const READ: u8 = 13;
+
+pub const WRITE: u8 = 14;
+
+pub const CHECK: u8 = 15;
+
+pub const TIMER: u8 = 32;
+
+pub const IO_DONE: u8 = 33;
+
+pub const PROGRAM_CHECK: u8 = 34;
+
+pub const OPERATOR_START: u8 = 35;
+
 // For each code: 0 unknown, 1 known, 2 known and needs a running task.
 const CODES: [u8; 36] = [
     0, // 0

@@ -9,7 +9,7 @@ use Rattle.words.specs.Words.{each}
 use Rattle.tables.specs.declared.Tables.{Tables}
 use Rattle.tables.specs.Blocks.{Free, Ready, Ending}
 use Rattle.tables.specs.State.{State, withRunning, taskAt, read}
-use Rattle.calls.specs.Calls.{callOf}
+use Rattle.calls.specs.Calls.{PROGRAM-CHECK, callOf}
 use Rattle.meaning.specs.Finish.{aborted}
 use Rattle.meaning.specs.Rules.{upward}
 use Rattle.meaning.specs.Services.{effect}
@@ -41,7 +41,7 @@ module _ (image : List ℕ) {t : Tables} (reached : Reached image t) where
   abbrev victims : List ℕ
   victims = takenBy 24 (t .running) (withRunning s 0)
 
-  pub abort-takes : (bytes : List ℕ) → callOf bytes .code ≡ 34 → effect s (callOf bytes) .state ≡ each taken victims (withRunning s 0)
+  pub abort-takes : (bytes : List ℕ) → callOf bytes .code ≡ PROGRAM-CHECK → effect s (callOf bytes) .state ≡ each taken victims (withRunning s 0)
   abort-takes bytes e = check-takes s (callOf bytes) e
 
   -- who they are: the running task, its parent, and so on upward, as the tables had the parents before the call; 0 where the chain is at its end
@@ -60,7 +60,7 @@ module _ (image : List ℕ) {t : Tables} (reached : Reached image t) where
   taken-once = each-taken-once lawful
 
   -- and where they are then: each is free, or waits as ending, and has lost its link; every other task is where it was, or was given core that it waited for and is ready
-  module _ (bytes : List ℕ) (aborts : callOf bytes .code ≡ 34) where
+  module _ (bytes : List ℕ) (aborts : callOf bytes .code ≡ PROGRAM-CHECK) where
     abbrev left : State
     left = effect s (callOf bytes) .state
 

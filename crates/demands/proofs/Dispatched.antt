@@ -9,7 +9,7 @@ use Rattle.words.specs.Words.{_among_}
 use Rattle.image.specs.declared.Outcome.the-variants.{Accepted}
 use Rattle.tables.specs.declared.Tables.{Tables}
 use Rattle.tables.specs.State.{State, readyQueue, queue, levelOf, read}
-use Rattle.calls.specs.Calls.{callOf, interrupts}
+use Rattle.calls.specs.Calls.{PROGRAM-CHECK, callOf, interrupts}
 use Rattle.meaning.specs.Services.{effect}
 use Rattle.meaning.specs.Step.{stepOf}
 use Rattle.lawful.specs.Reached.{Reached, First}
@@ -50,5 +50,5 @@ module _ (image : List ℕ) {t : Tables} (reached : Reached image t) where
     none-better = step-best t bytes (reached-lawful image reached)
 
     -- ---- "an interrupt never takes the processor from a running background task": all but 34, the program check, which aborts it
-    pub never-taken : callOf bytes .code among interrupts ≡ true → callOf bytes .code ≢ 34 → t .running ≢ 0 → stepOf t bytes .tables .running ≡ t .running
+    pub never-taken : callOf bytes .code among interrupts ≡ true → callOf bytes .code ≢ PROGRAM-CHECK → t .running ≢ 0 → stepOf t bytes .tables .running ≡ t .running
     never-taken i n = step-undisturbed t bytes (interrupts-need-none (callOf bytes .code) i n)

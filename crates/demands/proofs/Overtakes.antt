@@ -26,6 +26,6 @@ nobody-overtakes image {t} reached bytes level lo hi =
     ⊎-elim
     (λ z.
     let g = reached-lawful image reached .state in
-    let a = accepts (read t) (callOf bytes) (rows-left t bytes (z .1) .2) g in
+    let a = accepts (read t) (callOf bytes) (rows-left t bytes (z .1) .rows) g in
     rw (z .0, read-tabled (keeps g a)) (none-overtakes g a .turn level lo hi))
     (λ z. rw (z .0) (stays (read t) .turn level lo hi)) (tested (firstOf (refusals t bytes)) 0)

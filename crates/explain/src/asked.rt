@@ -1,5 +1,6 @@
 // What a call asks for.
 use calls::Call;
+use calls::codes;
 use lines::Line;
 use lines::field;
 use lines::members;
@@ -13,21 +14,21 @@ pub fn call(l: Line, c: Call) -> Line
 {
     let code = c.code;
     match code {
-        1 => text(l, b"freemain"),
-        5 => field(l, b"link module ", c.number as u64),
-        6 => text(l, b"end"),
-        7 => condition(field(l, b"schedule module ", c.number as u64), b" when ", c),
-        8 => condition(text(l, b"wait"), b" until ", c),
-        9 => signal(l, c.number, c.value),
-        10 => field(l, b"test event ", c.number as u64),
-        12 => text(l, b"dispatch check"),
-        13 => device(l, b"read ", b" bytes from device ", c),
-        14 => device(l, b"write ", b" bytes to device ", c),
-        15 => field(l, b"check request ", c.number as u64),
-        32 => text(l, b"timer"),
-        33 => text(l, b"I/O done"),
-        34 => text(l, b"program check"),
-        35 => field(l, b"start module ", c.number as u64),
+        codes::FREEMAIN => text(l, b"freemain"),
+        codes::LINK => field(l, b"link module ", c.number as u64),
+        codes::END => text(l, b"end"),
+        codes::SCHEDULE => condition(field(l, b"schedule module ", c.number as u64), b" when ", c),
+        codes::WAIT => condition(text(l, b"wait"), b" until ", c),
+        codes::SIGNAL => signal(l, c.number, c.value),
+        codes::TEST_EVENT => field(l, b"test event ", c.number as u64),
+        codes::DISPATCH_CHECK => text(l, b"dispatch check"),
+        codes::READ => device(l, b"read ", b" bytes from device ", c),
+        codes::WRITE => device(l, b"write ", b" bytes to device ", c),
+        codes::CHECK => field(l, b"check request ", c.number as u64),
+        codes::TIMER => text(l, b"timer"),
+        codes::IO_DONE => text(l, b"I/O done"),
+        codes::PROGRAM_CHECK => text(l, b"program check"),
+        codes::OPERATOR_START => field(l, b"start module ", c.number as u64),
         _ => field(l, b"code ", code as u64),
     }
 }

@@ -1,6 +1,7 @@
 // What a call was answered.
 use crate::refused;
 use calls::Answer;
+use calls::codes;
 use lines::Line;
 use lines::field;
 use lines::text;
@@ -22,9 +23,9 @@ fn accepted(l: Line, code: u8, result: u8) -> Line
     ensures { λ r. ⌜ r .used ≤ 440 ⌝ }
 {
     match code {
-        5 | 7 | 35 => made(l, b": task ", result),
-        13 | 14 => made(l, b": request ", result),
-        10 => {
+        codes::LINK | codes::SCHEDULE | codes::OPERATOR_START => made(l, b": task ", result),
+        codes::READ | codes::WRITE => made(l, b": request ", result),
+        codes::TEST_EVENT => {
             if result == 2 {
                 text(l, b": it is on")
             } else {

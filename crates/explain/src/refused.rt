@@ -1,4 +1,5 @@
 // What the refusals mean.
+use calls::codes;
 use lines::Line;
 ghost use Prim.Native.Nat.{_≤_};
 
@@ -53,7 +54,7 @@ fn amount(l: Line, code: u8) -> Line
     requires { ⌜ l .used ≤ 360 ⌝ }
     ensures { λ r. ⌜ r .used ≤ 440 ⌝ }
 {
-    if code == 9 {
+    if code == codes::SIGNAL {
         lines::text(l, b"the value is not 0 or 1")
     } else {
         lines::text(l, b"the byte count is 0 or above 65535")

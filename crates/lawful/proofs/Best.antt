@@ -70,7 +70,7 @@ unfolding accepted
 step-best t bytes g =
     ⊎-elim (λ z. rw (z .1, refused-leaves t (firstOf (refusals t bytes))) (λ n d. absurd (n refl)))
     (λ z.
-    let a = accepts (read t) (callOf bytes) (rows-left t bytes (z .0) .2) (g .state) in
+    let a = accepts (read t) (callOf bytes) (rows-left t bytes (z .0) .rows) (g .state) in
     let p = effect-puts (read t) (callOf bytes) .none-on in
     rw (z .1)
     (λ n d. subst NoneBetter (sym (read-tabled (keeps (g .state) a))) (dispatched-best (settles (g .state) a) (λ e. ⊎-elim (λ i. n (e ∙ i)) (λ i. d (e ∙ i)) p)))) (step-ends t bytes)

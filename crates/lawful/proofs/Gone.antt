@@ -15,7 +15,9 @@ use Rattle.tables.specs.Blocks.{Free, Ending, noTask}
 use Rattle.tables.specs.State.{State, coreQueue, withRunning, taskAt, queue, levelOf}
 use Rattle.calls.specs.declared.Call.{Call}
 use Rattle.meaning.specs.Ready.{placed}
-use Rattle.meaning.specs.Services.{programCheck, effect}
+use Rattle.calls.specs.Calls.{PROGRAM-CHECK}
+use Rattle.meaning.specs.Services.{programCheck, deeds, deedOf, effect}
+use Rattle.meaning.proofs.Deeds.{deed-at}
 use Rattle.meaning.specs.Rules.{queueFor, upward}
 use Rattle.meaning.specs.Finish.{freedTask, pending, finished, ended, unlinked, aborted}
 use Rattle.lawful.specs.Shape.{placeOf}
@@ -116,13 +118,13 @@ chain-gone (suc n) k s a (suc i) d =
     (chain-gone n (taskAt s k .parent) (taken k s) (on a (z .1)) i (λ e. d (sym (next-up a (z .1) i) ∙ e)))) (tested (taskAt s k .parent) 0)
 
 -- ---- The abort of a program check: those of the chain that the tables had, and the others.
-module _ {s : State} (g : Lawful s) (c : Call) (e : c .code ≡ 34) where
+module _ {s : State} (g : Lawful s) (c : Call) (e : c .code ≡ PROGRAM-CHECK) where
   pub check-gone : (i : ℕ) → upward s i (s .running) ≢ 0 → Gone (effect s c .state) (upward s i (s .running))
-  unfolding effect programCheck
+  unfolding deeds deedOf programCheck
   check-gone i d =
       let r : s .running ≢ 0 = λ z. d (ap (upward s i) z ∙ upward-none (g .shape) i) in
       let u = upward-stopped s 0 i (s .running) in
-      rw (e, ← u) (chain-gone 24 (s .running) (withRunning s 0) (starts-abort g r) i (λ z. d (sym u ∙ z)))
+      rw (deed-at s c PROGRAM-CHECK e, ← u) (chain-gone 24 (s .running) (withRunning s 0) (starts-abort g r) i (λ z. d (sym u ∙ z)))
 
   pub check-others : (y : ℕ) → y ≢ 0 → ((i : ℕ) → upward s i (s .running) ≢ y) → Other s (effect s c .state) y
   check-others y d f =

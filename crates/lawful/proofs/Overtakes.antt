@@ -20,7 +20,8 @@ use Rattle.meaning.specs.Conditions.{enough, dueOf, holds, awaitsEvents, awaits
 use Rattle.meaning.specs.Ready.{madeReady, bestReady, runsFirst, dispatched}
 use Rattle.meaning.specs.Finish.{freedTask, freedRequest, givenBack, pending, freedIfDone, freedDone, parentReady, finished, ended, unlinked, aborted}
 use Rattle.meaning.specs.Channel.{queued, channelFilled}
-use Rattle.meaning.specs.Services.{Effect, stopped, created, freemain, link, end, schedule, wait, woken, signal, testEvent, dispatchCheck, asked, readOrWrite, awaitsRequest, check, timely, timer, ioDone, programCheck, operatorStart, effect}
+use Rattle.meaning.specs.Services.{Effect, stopped, created, freemain, link, end, schedule, wait, woken, signal, testEvent, dispatchCheck, asked, readOrWrite, awaitsRequest, check, timely, timer, ioDone, programCheck, operatorStart, deeds, effect}
+use Rattle.meaning.proofs.Deeds.{Shown, every-deed}
 use Rattle.lawful.specs.Shape.{bit, Shape, InHand, Pending}
 use Rattle.lawful.specs.Resting.{Rest, Lawful, Aborting}
 use Rattle.lawful.specs.Accepts.{Accepts}
@@ -42,7 +43,6 @@ use Rattle.lawful.proofs.Link.{linked}
 use Rattle.lawful.proofs.Signal.{Walk, walk-step, signal-walk}
 use Rattle.lawful.proofs.Timer.{walk-tick, timer-walk, worst}
 use Rattle.lawful.proofs.IoDone.{off, owner, freed-hand, freed-rest, last-quiet, done-first}
-use Rattle.lawful.proofs.Keeps.{needs, one-of, last}
 use Rattle.lawful.proofs.Turns.{Turns, quiet, stays, then-turns}
 use Rattle.lawful.proofs.GetsInTurn.{holders-kept, holders-lost, made-turns, back-turns}
 
@@ -288,33 +288,28 @@ module _ {s : State} (c : Call) (g : Lawful s) where
       is-ending : eqb (taskAt s (owner s) .place) Ending ≡ true → (7 ≤ taskAt s (owner s) .place) × (taskAt s (owner s) .place ≤ 8)
       is-ending e = let p = eqb-true (taskAt s (owner s) .place) Ending e in omega (arith, p)
 
--- ---- All of them, by their codes.
-record InTurnAll (s : State) (e : Effect) : Type 0 where
-  all : Turns s (e .state)
-
-pick : {s : State} (a n : ℕ) {x y : Effect} → (a ≡ n → InTurnAll s x) → (a ≢ n → InTurnAll s y) → InTurnAll s (if eqb a n then x else y)
-pick a n f g = ⊎-elim (λ z. rw (z .0) (f (z .1))) (λ z. rw (z .0) (g (z .1))) (tested a n)
-
+-- ---- All of them, by the list of deeds.
 module _ {s : State} {c : Call} (g : Lawful s) (a : Accepts s c) where
-  effect-turns : InTurnAll s (effect s c)
-  unfolding effect needsTask _among_ testEvent
+  effect-turns : Turns s (effect s c .state)
+  unfolding Shown deeds needsTask _among_ testEvent
   effect-turns =
-      pick (c .code) 1 (λ z. record { all = freemain-turns c g (needs g a 1 refl z) }) (λ n1.
-      pick (c .code) 5 (λ z. record { all = let o = one-of g a (5 ∷ 7 ∷ 35 ∷ []) 5 refl z in link-turns c g (needs g a 5 refl z) (a .program o) (a .block o) }) (λ n5.
-      pick (c .code) 6 (λ z. record { all = end-turns c g (needs g a 6 refl z) }) (λ n6.
-      pick (c .code) 7 (λ z. record { all = let o = one-of g a (5 ∷ 7 ∷ 35 ∷ []) 7 refl z in schedule-turns c g (a .program o) (a .block o) }) (λ n7.
-      pick (c .code) 8 (λ z. record { all = wait-turns c g (needs g a 8 refl z) }) (λ n8.
-      pick (c .code) 9 (λ z. record { all = signal-turns c g (a .event (one-of g a (9 ∷ 10 ∷ []) 9 refl z) .1) }) (λ n9.
-      pick (c .code) 10 (λ z. record { all = stays s }) (λ n10.
-      pick (c .code) 12 (λ z. record { all = yield-turns c g (needs g a 12 refl z) }) (λ n12.
-      pick (c .code) 13 (λ z. record { all = transfer-turns c g (needs g a 13 refl z) }) (λ n13.
-      pick (c .code) 14 (λ z. record { all = transfer-turns c g (needs g a 14 refl z) }) (λ n14.
-      pick (c .code) 15 (λ z. record { all = check-turns c g (needs g a 15 refl z) }) (λ n15.
-      pick (c .code) 32 (λ z. record { all = timer-turns c g }) (λ n32.
-      pick (c .code) 33 (λ z. record { all = io-turns c g (a .channel z) }) (λ n33.
-      pick (c .code) 34 (λ z. record { all = abort-all-turns c g (needs g a 34 refl z) }) (λ n34.
-      record { all = let o = last g a n1 n5 n6 n7 n8 n9 n10 n12 n13 n14 n15 n32 n33 n34 in start-turns c g (a .program o) (a .block o) }))))))))))))))
+      every-deed s c (λ (e : Effect). Turns s (e .state)) (λ k. stays s)
+      (λ z. freemain-turns c g (a .running (rw z)))
+      (λ z. link-turns c g (a .running (rw z)) (a .program (rw z)) (a .block (rw z)))
+      (λ z. end-turns c g (a .running (rw z)))
+      (λ z. schedule-turns c g (a .program (rw z)) (a .block (rw z)))
+      (λ z. wait-turns c g (a .running (rw z)))
+      (λ z. signal-turns c g (a .event (rw z) .1))
+      (λ z. stays s)
+      (λ z. yield-turns c g (a .running (rw z)))
+      (λ z. transfer-turns c g (a .running (rw z)))
+      (λ z. transfer-turns c g (a .running (rw z)))
+      (λ z. check-turns c g (a .running (rw z)))
+      (λ z. timer-turns c g)
+      (λ z. io-turns c g (a .channel z))
+      (λ z. abort-all-turns c g (a .running (rw z)))
+      (λ z. start-turns c g (a .program (rw z)) (a .block (rw z)))
 
   -- the law: an accepted call, whole, and its dispatch
   pub none-overtakes : Turns s (dispatched (effect s c .state))
-  none-overtakes = then-turns (effect-turns .all) (dispatched-turns (effect s c .state))
+  none-overtakes = then-turns effect-turns (dispatched-turns (effect s c .state))

@@ -70,7 +70,7 @@ pub step-lawful : (t : Tables) (bytes : List ℕ) → LawfulTables t → LawfulT
 unfolding accepted
 step-lawful t bytes g =
     ⊎-elim (λ z. rw (z .1, refused-leaves t (firstOf (refusals t bytes))) g)
-    (λ z. rw (z .1) (tabled-lawful (keeps (g .state) (accepts (read t) (callOf bytes) (rows-left t bytes (z .0) .2) (g .state))))) (step-ends t bytes)
+    (λ z. rw (z .1) (tabled-lawful (keeps (g .state) (accepts (read t) (callOf bytes) (rows-left t bytes (z .0) .rows) (g .state))))) (step-ends t bytes)
 
 pub step-keeps : (t : Tables) (bytes : List ℕ) → Typed t → rulesHold t ≡ true → rulesHold (stepOf t bytes .tables) ≡ true
 step-keeps t bytes y e = tables-rules _ (step-lawful t bytes (rules-tables t y e))

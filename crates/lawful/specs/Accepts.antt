@@ -8,7 +8,7 @@ use lib.Bits.{bitAnd}
 use Rattle.words.specs.Words.{size}
 use Rattle.tables.specs.State.{State, requestAt}
 use Rattle.calls.specs.declared.Call.{Call}
-use Rattle.calls.specs.Calls.{known, needsTask}
+use Rattle.calls.specs.Calls.{CHECK, TIMER, IO-DONE, known, needsTask}
 use Rattle.meaning.specs.Refusals.{starts, tellsEvents, transfers, waits, clockEnd}
 use Rattle.lawful.specs.Shape.{bit}
 
@@ -29,6 +29,6 @@ pub record Accepts (s : State) (c : Call) : Type 0 where
   pub device : transfers c ≡ true → c .number ≤ 249
   pub bytes : transfers c ≡ true → (1 ≤ c .amount) × (c .amount ≤ 65535)
   pub freeRequests : transfers c ≡ true → s .freeRequests ≢ 0
-  pub held : c .code ≡ 15 → (1 ≤ c .number) × (c .number ≤ 16) × (requestAt s (c .number) .place ≢ 0) × (requestAt s (c .number) .owner ≡ s .running)
-  pub channel : c .code ≡ 33 → s .channel ≢ 0
-  pub clock : c .code ≡ 32 → s .clock ≢ clockEnd
+  pub held : c .code ≡ CHECK → (1 ≤ c .number) × (c .number ≤ 16) × (requestAt s (c .number) .place ≢ 0) × (requestAt s (c .number) .owner ≡ s .running)
+  pub channel : c .code ≡ IO-DONE → s .channel ≢ 0
+  pub clock : c .code ≡ TIMER → s .clock ≢ clockEnd

@@ -3,3 +3,4 @@ pub mod Named
 pub mod Rules
 pub mod Parts
 pub mod Once
+pub mod Deeds

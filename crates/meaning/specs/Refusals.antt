@@ -10,22 +10,22 @@ use Rattle.tables.specs.declared.Tables.{Tables}
 use Rattle.tables.specs.Blocks.{Free}
 use Rattle.tables.specs.State.{State, requestAt, read}
 use Rattle.calls.specs.declared.Call.{Call}
-use Rattle.calls.specs.Calls.{callOf, known, needsTask}
+use Rattle.calls.specs.Calls.{LINK, SCHEDULE, WAIT, SIGNAL, TEST-EVENT, READ, WRITE, CHECK, TIMER, IO-DONE, OPERATOR-START, callOf, known, needsTask}
 use Rattle.meaning.specs.Conditions.{undefinedIn}
 use Rattle.meaning.specs.Rules.{rulesHold}
 
 -- "(5, 7, 35)", "(9, 10)", "(13, 14)", "(7, 8)"
 abbrev pub starts : Call → Bool
-starts c = c .code among (5 ∷ 7 ∷ 35 ∷ [])
+starts c = c .code among (LINK ∷ SCHEDULE ∷ OPERATOR-START ∷ [])
 
 abbrev pub tellsEvents : Call → Bool
-tellsEvents c = c .code among (9 ∷ 10 ∷ [])
+tellsEvents c = c .code among (SIGNAL ∷ TEST-EVENT ∷ [])
 
 abbrev pub transfers : Call → Bool
-transfers c = c .code among (13 ∷ 14 ∷ [])
+transfers c = c .code among (READ ∷ WRITE ∷ [])
 
 abbrev pub waits : Call → Bool
-waits c = c .code among (7 ∷ 8 ∷ [])
+waits c = c .code among (SCHEDULE ∷ WAIT ∷ [])
 
 -- "event undefined or above 63"
 abbrev pub undefined : State → ℕ → Bool
@@ -41,7 +41,7 @@ badCount n = eqb n 0 || ltb 65535 n
 
 -- "kind not 0 to 3, or 0 for WAIT; or kind 1 with an undefined event in the set"
 abbrev pub badKind : State → Call → Bool
-badKind s c = ltb 3 (c .kind) || eqb (c .code) 8 && eqb (c .kind) 0 || eqb (c .kind) 1 && undefinedIn s (c .events)
+badKind s c = ltb 3 (c .kind) || eqb (c .code) WAIT && eqb (c .kind) 0 || eqb (c .kind) 1 && undefinedIn s (c .events)
 
 -- the clock's end
 abbrev pub clockEnd : ℕ
@@ -55,15 +55,15 @@ callRows s c =
     ∷ 12 when (starts c && leb (s .directory .modules) (c .number))
     ∷ 19 when (tellsEvents c && undefined s (c .number))
     ∷ 22 when (transfers c && ltb 249 (c .number))
-    ∷ 23 when (transfers c && badCount (c .amount) || eqb (c .code) 9 && ltb 1 (c .value))
-    ∷ 18 when (eqb (c .code) 15 && not (held s (c .number)))
+    ∷ 23 when (transfers c && badCount (c .amount) || eqb (c .code) SIGNAL && ltb 1 (c .value))
+    ∷ 18 when (eqb (c .code) CHECK && not (held s (c .number)))
     ∷ 13 when (waits c && badKind s c)
     ∷ 14 when (waits c && eqb (c .kind) 1 && (eqb (c .value) 0 || ltb (size (c .events)) (c .value)))
     ∷ 15 when (waits c && eqb (c .kind) 3 && ltb clockEnd (s .clock + c .amount))
     ∷ 16 when (starts c && eqb (s .freeTasks) 0)
     ∷ 17 when (transfers c && eqb (s .freeRequests) 0)
-    ∷ 20 when (eqb (c .code) 33 && eqb (s .channel) 0)
-    ∷ 21 when (eqb (c .code) 32 && eqb (s .clock) clockEnd)
+    ∷ 20 when (eqb (c .code) IO-DONE && eqb (s .channel) 0)
+    ∷ 21 when (eqb (c .code) TIMER && eqb (s .clock) clockEnd)
     ∷ []
 
 -- The table, whole: "9 | the tables handed in break the table rules below", "10 | not 16 bytes", and the rest.

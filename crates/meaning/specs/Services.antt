@@ -1,11 +1,13 @@
 -- Document 01, 'What each call does': each accepted call, before the dispatch at its end.
 use mathlib.Core.Bool.{not, _&&_}
+use mathlib.Core.List.{List, [], _∷_}
 use Prim.Native.Nat.{ℕ, _+_, _%_}
 use lib.Dec.{eqb, leb, ltb}
 use Rattle.words.specs.Words.{if_then_else_, each, has, adding, dropping, least}
 use Rattle.tables.specs.Blocks.{taskBlocks, Ready, InLink, InCheck, Ending, Queued, Done, request, newTask, awaitingRequest}
 use Rattle.tables.specs.State.{State, readyQueue, eventQueue, timeQueue, withClock, withOn, withRunning, withChannel, withFreeTasks, withFreeRequests, withTask, withRequest, taskAt, requestAt, queue, levelOf, leading, leaving}
 use Rattle.calls.specs.declared.Call.{Call}
+use Rattle.calls.specs.Calls.{FREEMAIN, LINK, END, SCHEDULE, WAIT, SIGNAL, TEST-EVENT, DISPATCH-CHECK, READ, WRITE, CHECK, TIMER, IO-DONE, PROGRAM-CHECK, OPERATOR-START}
 use Rattle.meaning.specs.Conditions.{enough, holds, waiting}
 use Rattle.meaning.specs.Ready.{placed, madeReady, bestReady}
 use Rattle.meaning.specs.Finish.{freedRequest, givenBack, pending, finished, ended, aborted}
@@ -141,21 +143,34 @@ operatorStart s c =
     let k = lowestTask s in
     madeReady (created s k (c .number) 0) k giving k
 
--- ---- All calls, by their codes.
+-- ---- All calls: for each code what a call of it does.
+infix 68 _does_
+pub data Deed : Type 0 where
+  _does_ : ℕ → (State → Call → Effect) → Deed
+
+unfoldable pub deeds : List Deed
+deeds =
+    FREEMAIN does freemain
+    ∷ LINK does link
+    ∷ END does end
+    ∷ SCHEDULE does schedule
+    ∷ WAIT does wait
+    ∷ SIGNAL does signal
+    ∷ TEST-EVENT does testEvent
+    ∷ DISPATCH-CHECK does dispatchCheck
+    ∷ READ does readOrWrite
+    ∷ WRITE does readOrWrite
+    ∷ CHECK does check
+    ∷ TIMER does timer
+    ∷ IO-DONE does ioDone
+    ∷ PROGRAM-CHECK does programCheck
+    ∷ OPERATOR-START does operatorStart
+    ∷ []
+
+-- the deed of a code; a code that has none is refused by 24, and nothing is done
+unfoldable pub deedOf : List Deed → ℕ → State → Call → Effect
+deedOf [] code s c = s giving 0
+deedOf (n does f ∷ l) code s c = (if eqb n code then f else deedOf l code) s c
+
 unfoldable pub effect : State → Call → Effect
-effect s c =
-    if eqb (c .code) 1 then freemain s c
-    else if eqb (c .code) 5 then link s c
-    else if eqb (c .code) 6 then end s c
-    else if eqb (c .code) 7 then schedule s c
-    else if eqb (c .code) 8 then wait s c
-    else if eqb (c .code) 9 then signal s c
-    else if eqb (c .code) 10 then testEvent s c
-    else if eqb (c .code) 12 then dispatchCheck s c
-    else if eqb (c .code) 13 then readOrWrite s c
-    else if eqb (c .code) 14 then readOrWrite s c
-    else if eqb (c .code) 15 then check s c
-    else if eqb (c .code) 32 then timer s c
-    else if eqb (c .code) 33 then ioDone s c
-    else if eqb (c .code) 34 then programCheck s c
-    else operatorStart s c
+effect s c = deedOf deeds (c .code) s c

@@ -1,5 +1,6 @@
 // What the rows of the table test, on numbers that are taken out of the tables.
 use calls::Call;
+use calls::codes;
 use tables::Request;
 ghost use mathlib.Core.Bool.{not, _&&_, _||_};
 ghost use mathlib.Core.List.{[], _∷_};
@@ -10,6 +11,7 @@ ghost use lib.Dec.{eqb, ltb};
 ghost use lib.ListN.{getD};
 ghost use Rattle.words.specs.Words.{_among_, has, size};
 ghost use Rattle.tables.specs.Blocks.{Free, noRequest};
+ghost use Rattle.calls.specs.Calls.{SIGNAL, WAIT};
 ghost use Rattle.meaning.specs.Refusals.{starts, badCount, clockEnd};
 
 // The clock's end.
@@ -26,7 +28,7 @@ pub fn either(code: u8, a: u8, b: u8) -> bool
 pub fn starts(c: Call) -> bool
     ensures { λ r. ⌜ r ≡ starts c ⌝ }
 {
-    (5 == c.code) | either(c.code, 7, 35)
+    (codes::LINK == c.code) | either(c.code, codes::SCHEDULE, codes::OPERATOR_START)
 }
 
 // "event undefined or above 63"
@@ -45,9 +47,9 @@ pub fn bad_count(count: u32) -> bool
 
 // "SIGNAL value not 0 or 1"
 pub fn bad_value(c: Call) -> bool
-    ensures { λ r. ⌜ r ≡ (eqb (c .code) 9 && ltb 1 (c .value)) ⌝ }
+    ensures { λ r. ⌜ r ≡ (eqb (c .code) SIGNAL && ltb 1 (c .value)) ⌝ }
 {
-    (c.code == 9) & (1 < c.value)
+    (c.code == codes::SIGNAL) & (1 < c.value)
 }
 
 // A request block that is held by the caller. A number above 16 names none.
@@ -63,10 +65,10 @@ pub fn held(requests: [Request; 17], number: u8, caller: u8) -> bool
 
 // "kind not 0 to 3, or 0 for WAIT; or kind 1 with an undefined event in the set"
 pub fn bad_kind(defined: u64, c: Call) -> bool
-    ensures { λ r. ⌜ r ≡ (ltb 3 (c .kind) || eqb (c .code) 8 && eqb (c .kind) 0 || eqb (c .kind) 1 && not (eqb (bitAnd (c .events) defined) (c .events))) ⌝ }
+    ensures { λ r. ⌜ r ≡ (ltb 3 (c .kind) || eqb (c .code) WAIT && eqb (c .kind) 0 || eqb (c .kind) 1 && not (eqb (bitAnd (c .events) defined) (c .events))) ⌝ }
 {
     (3 < c.kind)
-        | (c.code == 8) & (c.kind == 0)
+        | (c.code == codes::WAIT) & (c.kind == 0)
         | (c.kind == 1) & ((c.events & defined) != c.events)
 }
 

@@ -9,6 +9,7 @@ ghost use Rattle.threads.specs.Threads.{Sound};
 ghost use Rattle.meaning.specs.Services.{testEvent};
 use crate::events;
 use calls::Call;
+use calls::codes;
 use channel::check;
 use channel::done;
 use channel::transfer;
@@ -46,20 +47,25 @@ pub fn effect(t: Tables, c: Call) -> Given
 {
     let code = c.code;
     match code {
-        1 => one(stopping::freemain(t)),
-        5 => starting::link(t, c),
-        6 => one(stopping::end(t)),
-        7 => starting::schedule(t, c),
-        8 => one(events::wait(t, c)),
-        9 => one(events::signal(t, c)),
-        10 => tell(t, c),
-        12 => one(turns::dispatch_check(t)),
-        13 => transfer::transfer(t, c),
-        14 => transfer::transfer(t, c),
-        15 => one(check::check(t, c)),
-        32 => one(turns::timer(t)),
-        33 => one(done::io_done(t)),
-        34 => one(stopping::program_check(t)),
-        _ => starting::start(t, c),
+        codes::FREEMAIN => one(stopping::freemain(t)),
+        codes::LINK => starting::link(t, c),
+        codes::END => one(stopping::end(t)),
+        codes::SCHEDULE => starting::schedule(t, c),
+        codes::WAIT => one(events::wait(t, c)),
+        codes::SIGNAL => one(events::signal(t, c)),
+        codes::TEST_EVENT => tell(t, c),
+        codes::DISPATCH_CHECK => one(turns::dispatch_check(t)),
+        codes::READ => transfer::transfer(t, c),
+        codes::WRITE => transfer::transfer(t, c),
+        codes::CHECK => one(check::check(t, c)),
+        codes::TIMER => one(turns::timer(t)),
+        codes::IO_DONE => one(done::io_done(t)),
+        codes::PROGRAM_CHECK => one(stopping::program_check(t)),
+        codes::OPERATOR_START => starting::start(t, c),
+        // 24 refuses any other.
+        _ => Given {
+            tables: t,
+            result: 0,
+        },
     }
 }
