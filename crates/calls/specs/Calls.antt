@@ -6,8 +6,8 @@ use lib.ListN.{length, getD}
 use lib.Dec.{eqb}
 use Rattle.words.specs.Words.{if_then_else_, _among_}
 use Rattle.words.specs.Bytes.{number}
-use Rattle.image.specs.declared.Outcome.{Outcome}
-use Rattle.image.specs.Answer.{refusalOf, resultOf}
+use Rattle.answers.specs.declared.Outcome.{Outcome}
+use Rattle.answers.specs.Answer.{refusalOf, resultOf}
 use Rattle.calls.specs.declared.Call.{Call}
 use Rattle.calls.specs.declared.Arrival.{Arrival}
 use Rattle.calls.specs.declared.Arrival.the-variants.{Came, Cut}

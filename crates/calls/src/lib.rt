@@ -3,7 +3,7 @@
 // It answers for the first paragraphs of 'Calls' of document 01. It knows bytes and numbers, and nothing of tables.
 pub mod codes;
 
-use image::Outcome;
+use answers::Outcome;
 ghost use mathlib.Core.List.{[], _∷_};
 ghost use mathlib.Core.Path.{_≡_};
 ghost use Rattle.calls.specs.Calls.{arrivalOf, arrival, numbers};

@@ -11,9 +11,9 @@ use lib.ListN.{replicate}
 use Rattle.threads.specs.Threads.{after, before, listOf, tab, row, threaded}
 use Rattle.words.specs.Words.{_among_}
 use Rattle.words.specs.Rows.{firstOf}
-use Rattle.image.specs.declared.Outcome.the-variants.{Refused, Accepted}
+use Rattle.answers.specs.declared.Outcome.the-variants.{Refused, Accepted}
 use Rattle.image.specs.declared.Directory.{Directory}
-use Rattle.image.specs.Answer.{refusalOf, resultOf}
+use Rattle.answers.specs.Answer.{refusalOf, resultOf}
 use Rattle.image.specs.Directory.{noDirectory}
 use Rattle.image.specs.Load.{directoryOf, loadRows, refusedLoad, loadOf}
 use Rattle.image.specs.Write.{imageOf, writeRows, writeOf}

@@ -6,7 +6,7 @@ use mathlib.Core.Logic.{_≢_, _⊎_}
 use mathlib.Core.List.{List, []}
 use Prim.Native.Nat.{ℕ, _≤_, _<_}
 use Rattle.words.specs.Words.{_among_}
-use Rattle.image.specs.declared.Outcome.the-variants.{Accepted}
+use Rattle.answers.specs.declared.Outcome.the-variants.{Accepted}
 use Rattle.tables.specs.declared.Tables.{Tables}
 use Rattle.tables.specs.State.{State, readyQueue, queue, levelOf, read}
 use Rattle.calls.specs.Calls.{PROGRAM-CHECK, callOf, interrupts}

@@ -15,9 +15,9 @@ use Prim.Native.Nat.{ℕ}
 use lib.ListN.{length}
 use lib.Dec.{eqb}
 use Rattle.words.specs.Words.{if_then_else_}
-use Rattle.image.specs.declared.Outcome.the-variants.{Refused, Accepted}
+use Rattle.answers.specs.declared.Outcome.the-variants.{Refused, Accepted}
 use Rattle.image.specs.declared.Directory.{Directory}
-use Rattle.image.specs.Answer.{refusalOf}
+use Rattle.answers.specs.Answer.{refusalOf}
 use Rattle.image.specs.Fits.{Bytes, Fits}
 use Rattle.image.specs.Load.{directoryOf, loadOf}
 use Rattle.image.specs.Write.{writeOf}

@@ -4,24 +4,22 @@ use mathlib.Core.Bool.{true, false}
 use mathlib.Core.Path.{_≡_}
 use mathlib.Core.Logic.{_≢_, _↔_}
 use mathlib.Core.List.{List, _∷_}
-use Prim.Native.Nat.{ℕ, _+_, _-_, _≤_, _<_}
-use native.Mathlib.Omega.{arith}
+use Prim.Native.Nat.{ℕ, _+_, _≤_, _<_}
 use lib.ListN.{getD}
 use lib.Bits.{bitAnd}
 use lib.Dec.{eqb}
 use Rattle.threads.specs.Threads.{lst, count, counts, Sound}
 use Rattle.threads.proofs.Read.{last-of}
 use Rattle.words.specs.Words.{if_then_else_, oneTo, _among_, howMany, has, size}
-use Rattle.image.specs.declared.Outcome.the-variants.{Refused}
+use Rattle.answers.specs.declared.Outcome.the-variants.{Refused}
 use Rattle.tables.specs.declared.Tables.{Tables}
 use Rattle.tables.specs.Blocks.{Free, Running, Ending, Queued, OnChannel, Done}
 use Rattle.tables.specs.State.{State, eventQueue, coreQueue, channelQueue, node, taskAt, requestAt, poolAt, queue, levelOf, unitsOf, read}
 use Rattle.meaning.specs.Rules.{queueFor, holdsUnit, rulesHold}
 use Rattle.meaning.specs.Step.{stepOf}
-use Rattle.lawful.specs.Shape.{one, bit, placeOf}
+use Rattle.lawful.specs.Shape.{one, placeOf}
 use Rattle.lawful.specs.Resting.{Lawful}
 use Rattle.lawful.specs.Reached.{Reached}
-use Rattle.lawful.proofs.Bits.{bit-le}
 use Rattle.lawful.proofs.Members.{level-best, level-worst, member-some, member-low, channel-high, channel-low}
 use Rattle.lawful.proofs.Corollaries.{units-make, runs-apart}
 use Rattle.lawful.proofs.Steps.{reached-lawful, reached-rules}

@@ -5,8 +5,8 @@
 // It knows the image alone, and nothing of tables or calls.
 mod listing;
 
+use answers::Outcome;
 use image::Directory;
-use image::Outcome;
 use libc::STDIN_FILENO;
 use lines::text;
 

@@ -3,13 +3,13 @@
 // It answers for what document 01 promises of a load and of a call, whole: every entry takes any bytes and any tables, asks nothing, and states its
 // complete answer and the tables that it leaves. The three exported functions are what another language sees; `include/khilzurgee.h` declares them and the
 // layout of the structs. A load and a call each have one function by value, which does all of it, and an exported one that only puts the tables in their place.
+use answers::Outcome;
 use calls::Answer;
-use image::Outcome;
 use meaning::Step;
 use tables::Tables;
 ghost use mathlib.Core.List.{[], _∷_};
 ghost use mathlib.Core.Path.{_≡_};
-ghost use Rattle.image.specs.Answer.{refusalOf};
+ghost use Rattle.answers.specs.Answer.{refusalOf};
 ghost use Rattle.image.specs.Load.{loadOf};
 ghost use Rattle.meaning.specs.Step.{tablesOf, stepOf, lineOf, loadLine};
 

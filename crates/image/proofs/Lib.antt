@@ -1,4 +1,3 @@
-pub mod Cases
 pub mod Loads
 pub mod Writes
 pub mod Small

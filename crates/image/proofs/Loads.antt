@@ -12,14 +12,14 @@ use lib.Dec.{eqb}
 use Rattle.words.specs.Rows.{Row, _when_, firstOf}
 use Rattle.words.proofs.Rows.{Numbered, none, numbered, row-past, row-here, row-passed, first-stays, first-past, first-none}
 use Rattle.sealed.specs.Sealed.{passes}
-use Rattle.image.specs.declared.Outcome.the-variants.{Accepted}
+use Rattle.answers.specs.declared.Outcome.the-variants.{Accepted}
 use Rattle.image.specs.declared.Directory.{Directory}
 use Rattle.image.specs.declared.Loaded.{Loaded}
 use Rattle.image.specs.Block.{fillersZero}
 use Rattle.image.specs.Directory.{directoryRows}
-use Rattle.image.specs.Answer.{refusalOf}
+use Rattle.answers.specs.Answer.{refusalOf}
 use Rattle.image.specs.Load.{directoryOf, blockRows, loadRows, refusedLoad, loadOf}
-use Rattle.image.proofs.Cases.{refusal-of}
+use Rattle.answers.proofs.Cases.{refusal-of}
 
 -- the rows from the fourth on, and the last of all
 abbrev lastRow : List ℕ → List Row

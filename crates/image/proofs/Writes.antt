@@ -15,9 +15,9 @@ use Rattle.words.proofs.Rows.{row-past, row-passed}
 use Rattle.words.specs.Words.{below}
 use Rattle.sealed.specs.Sealed.{sealed}
 use Rattle.sealed.proofs.Seals.{sealed-length}
-use Rattle.image.specs.declared.Outcome.the-variants.{Refused, Accepted}
+use Rattle.answers.specs.declared.Outcome.the-variants.{Refused, Accepted}
 use Rattle.image.specs.declared.Directory.{Directory}
-use Rattle.image.specs.Answer.{refusalOf}
+use Rattle.answers.specs.Answer.{refusalOf}
 use Rattle.image.specs.Directory.{directoryRows}
 use Rattle.image.specs.Write.{byteOf, bodyOf, imageOf, writeRows, Written, writeOf}
 

@@ -11,7 +11,7 @@ use Rattle.sealed.specs.Sealed.{passes}
 use Rattle.image.specs.declared.Entry.{Entry}
 use Rattle.image.specs.declared.Directory.{Directory}
 use Rattle.image.specs.declared.Loaded.{Loaded}
-use Rattle.image.specs.Answer.{outcomeOf}
+use Rattle.answers.specs.Answer.{outcomeOf}
 use Rattle.image.specs.Block.{fillersZero}
 use Rattle.image.specs.Directory.{noDirectory, directoryRows}
 

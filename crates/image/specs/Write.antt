@@ -8,10 +8,10 @@ use Rattle.words.specs.Words.{if_then_else_, below}
 use Rattle.words.specs.Bytes.{digit}
 use Rattle.words.specs.Rows.{Row, _when_, firstOf}
 use Rattle.sealed.specs.Sealed.{sealed}
-use Rattle.image.specs.declared.Outcome.{Outcome}
+use Rattle.answers.specs.declared.Outcome.{Outcome}
 use Rattle.image.specs.declared.Entry.{Entry}
 use Rattle.image.specs.declared.Directory.{Directory}
-use Rattle.image.specs.Answer.{outcomeOf}
+use Rattle.answers.specs.Answer.{outcomeOf}
 use Rattle.image.specs.Directory.{entryAt, directoryRows}
 
 -- "level, core units .., flags .., zero, entry point in 4 bytes": byte j of an entry

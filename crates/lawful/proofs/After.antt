@@ -9,12 +9,12 @@ use borrow.Author.Tests.{eq-eqb, ne-eqb}
 use Rattle.threads.proofs.Lists.{tested}
 use Rattle.words.specs.Words.{if_then_else_, _among_}
 use Rattle.words.specs.Rows.{firstOf}
-use Rattle.image.specs.declared.Outcome.the-variants.{Refused, Accepted}
+use Rattle.answers.specs.declared.Outcome.the-variants.{Refused, Accepted}
 use Rattle.image.specs.declared.Loaded.{Loaded}
-use Rattle.image.specs.Answer.{refusalOf}
+use Rattle.answers.specs.Answer.{refusalOf}
 use Rattle.image.specs.Load.{directoryOf, loadOf}
 use Rattle.image.proofs.Loads.{load-accepted, check-is-load}
-use Rattle.image.proofs.Cases.{refused-by}
+use Rattle.answers.proofs.Cases.{refused-by}
 use Rattle.tables.specs.declared.Tables.{Tables}
 use Rattle.tables.specs.State.{State, read, loaded}
 use Rattle.calls.specs.Calls.{TIMER, IO-DONE, PROGRAM-CHECK, OPERATOR-START, callOf, interrupts, needsTask, numbers}

@@ -9,11 +9,11 @@ use native.Mathlib.Omega.{arith}
 use borrow.Author.Tests.{eq-eqb, ne-eqb}
 use Rattle.threads.proofs.Lists.{tested}
 use Rattle.words.specs.Rows.{firstOf}
-use Rattle.image.specs.declared.Outcome.{Outcome}
-use Rattle.image.specs.declared.Outcome.the-variants.{Refused, Accepted}
+use Rattle.answers.specs.declared.Outcome.{Outcome}
+use Rattle.answers.specs.declared.Outcome.the-variants.{Refused, Accepted}
 use Rattle.image.specs.declared.Directory.{Directory}
 use Rattle.image.specs.declared.Loaded.{Loaded}
-use Rattle.image.specs.Answer.{refusalOf, resultOf}
+use Rattle.answers.specs.Answer.{refusalOf, resultOf}
 use Rattle.image.specs.Directory.{noDirectory}
 use Rattle.image.specs.Load.{directoryOf, loadRows, refusedLoad, loadOf}
 use Rattle.image.specs.Write.{imageOf, writeRows, Written, writeOf}
@@ -22,7 +22,7 @@ use Rattle.tables.specs.declared.Tables.{Tables}
 use Rattle.tables.specs.State.{read, tabled, allZero}
 use Rattle.calls.specs.Calls.{callOf}
 use Rattle.meaning.specs.declared.Step.{Step}
-use Rattle.image.proofs.Cases.{refused-by}
+use Rattle.answers.proofs.Cases.{refused-by}
 use Rattle.meaning.specs.Rules.{directoryPasses}
 use Rattle.meaning.specs.Refusals.{refusals}
 use Rattle.meaning.specs.Services.{effect}

@@ -8,7 +8,7 @@ use lib.ListN.{getD, replicate}
 use borrow.Author.Tests.{eq-eqb}
 use Rattle.threads.specs.Threads.{threaded, tab, listOf}
 use Rattle.image.specs.declared.Directory.{Directory}
-use Rattle.image.specs.Answer.{refusalOf}
+use Rattle.answers.specs.Answer.{refusalOf}
 use Rattle.image.specs.Load.{directoryOf, loadOf}
 use Rattle.image.proofs.Loads.{load-accepted, check-is-load}
 use Rattle.tables.specs.State.{loaded, tabled}

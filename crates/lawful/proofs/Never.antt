@@ -10,7 +10,7 @@ use lib.Dec.{eqb}
 use borrow.Author.Tests.{eq-eqb}
 use Rattle.words.specs.Words.{if_then_else_, _among_}
 use Rattle.words.specs.Rows.{Row, _when_, firstOf}
-use Rattle.image.specs.declared.Outcome.the-variants.{Refused}
+use Rattle.answers.specs.declared.Outcome.the-variants.{Refused}
 use Rattle.tables.specs.declared.Tables.{Tables}
 use Rattle.tables.specs.State.{read}
 use Rattle.calls.specs.Calls.{callOf}

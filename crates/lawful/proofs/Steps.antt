@@ -11,7 +11,7 @@ use Rattle.threads.specs.Threads.{queuesOf, threaded}
 use Rattle.threads.proofs.Read.{read-back, sound}
 use Rattle.words.specs.Words.{allTrue}
 use Rattle.words.specs.Rows.{firstOf}
-use Rattle.image.specs.Answer.{refusalOf}
+use Rattle.answers.specs.Answer.{refusalOf}
 use Rattle.image.specs.Load.{loadOf}
 use Rattle.tables.specs.declared.Tables.{Tables}
 use Rattle.tables.specs.State.{State, withQueues, read, tabled}

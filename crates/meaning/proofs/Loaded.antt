@@ -9,7 +9,7 @@ use Rattle.threads.specs.Threads.{walk, queuesOf, threaded, row, tab, listOf, a
 use Rattle.words.specs.Words.{_among_, below, oneTo, allOf, howMany, sameList, upBy, standing, allTrue}
 use Rattle.words.specs.Rows.{firstOf}
 use Rattle.image.specs.declared.Directory.{Directory}
-use Rattle.image.specs.Answer.{refusalOf}
+use Rattle.answers.specs.Answer.{refusalOf}
 use Rattle.image.specs.Directory.{directoryRows}
 use Rattle.image.specs.Load.{directoryOf, loadOf}
 use Rattle.image.proofs.Loads.{good, load-accepted, check-is-load}

@@ -4,7 +4,7 @@ use Prim.Native.Nat.{ℕ}
 use lib.Dec.{eqb}
 use Rattle.words.specs.Words.{if_then_else_}
 use Rattle.words.specs.Rows.{firstOf}
-use Rattle.image.specs.Answer.{refusalOf, outcomeOf}
+use Rattle.answers.specs.Answer.{refusalOf, outcomeOf}
 use Rattle.image.specs.Load.{loadOf}
 use Rattle.tables.specs.declared.Tables.{Tables}
 use Rattle.tables.specs.State.{read, tabled, loaded, allZero}

@@ -1,7 +1,7 @@
 // The meaning of the executive: what document 01 says that calls and interrupts do, and the table rules, as definitions that can be computed.
 //
 // It has the types of what a call gives, and no code. Whoever wants to know what must be believed reads specs/ beside document 01.
-use image::Outcome;
+use answers::Outcome;
 use tables::Tables;
 
 // What an accepted call gives: the tables, before the dispatch, and the result.

@@ -9,7 +9,7 @@ use lib.ListN.{length}
 use borrow.Author.Tests.{eq-eqb, ne-eqb}
 use Rattle.threads.proofs.Lists.{tested}
 use Rattle.words.specs.Rows.{firstOf}
-use Rattle.image.specs.declared.Outcome.the-variants.{Refused, Accepted}
+use Rattle.answers.specs.declared.Outcome.the-variants.{Refused, Accepted}
 use Rattle.tables.specs.declared.Tables.{Tables}
 use Rattle.tables.specs.State.{read}
 use Rattle.tables.specs.Held.{Held, Shows}

@@ -1,7 +1,7 @@
 -- `load` meets its contract, accepted and refused.
 use mathlib.Core.Path.{sym, ap, _∙_}
 use borrow.Author.Needs.{needs}
-use Rattle.image.specs.declared.Outcome.{Outcome}
+use Rattle.answers.specs.declared.Outcome.{Outcome}
 use Rattle.image.specs.declared.Loaded.{Loaded}
 use Rattle.executive.proofs.Begins.{begun-accepted, begun-refused}
 use Rattle.executive.proofs.load.Statement.{statement}

@@ -8,9 +8,9 @@ use native.Mathlib.Nat.{eq-zero-or-pos}
 use lib.Dec.{eqb}
 use borrow.Author.Tests.{eq-eqb, ne-eqb}
 use Rattle.words.specs.Words.{if_then_else_}
-use Rattle.image.specs.declared.Outcome.{Outcome}
-use Rattle.image.specs.declared.Outcome.the-variants.{Refused, Accepted}
-use Rattle.image.specs.Answer.{refusalOf, resultOf, outcomeOf}
+use Rattle.answers.specs.declared.Outcome.{Outcome}
+use Rattle.answers.specs.declared.Outcome.the-variants.{Refused, Accepted}
+use Rattle.answers.specs.Answer.{refusalOf, resultOf, outcomeOf}
 
 pub refusal-of : (n r : ℕ) → refusalOf (outcomeOf n r) ≡ n
 refusal-of n r = ⊎-elim (λ z. rw (eq-eqb n 0 z) (sym z)) (λ h. rw (ne-eqb n 0 (λ z. omega arith))) (eq-zero-or-pos n)
