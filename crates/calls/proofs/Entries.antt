@@ -1,5 +1,5 @@
--- The table over the codes. Its rule is one test that is computed over all 36 entries, whatever the table, and `all-at` gives it at each; past the
--- table neither list has the code, because each number of both is below 36. An entry says both things: a code that needs a running task is known.
+-- The table over the codes. Its rule is one test that is computed over all entries, whatever the table, and `all-at` gives it at each; past the
+-- table neither list has the code, because each number of both is below their number. An entry says both things: a code that needs a running task is known.
 use mathlib.Core.Bool.{Bool, true, false, not, _||_}
 use mathlib.Core.Path.{_≡_, refl, sym, ap}
 use mathlib.Core.List.{List, [], _∷_}
@@ -12,35 +12,39 @@ use Rattle.words.specs.Words.{if_then_else_, below, allOf, _among_}
 use Rattle.words.proofs.Lists.{and-left, and-right, all-at}
 use Rattle.calls.specs.Calls.{services, interrupts, known, needsTask, codeEntry}
 
--- ---- Codes 0 to 35: the test over the whole table.
+-- how many the table has
+abbrev pub entries : ℕ
+entries = 36
+
+-- ---- Codes in the table: the test over the whole of it.
 
 abbrev right : List ℕ → ℕ → Bool
 right table code = eqb (getD table code 0) (codeEntry code)
 
-pub table-right : (table : List ℕ) (code : ℕ) → code < 36 → allOf (right table) (below 36) ≡ true → getD table code 0 ≡ codeEntry code
-table-right table code low test = eqb-true (getD table code 0) (codeEntry code) (all-at (right table) 36 code test low)
+pub table-right : (table : List ℕ) (code : ℕ) → code < entries → allOf (right table) (below entries) ≡ true → getD table code 0 ≡ codeEntry code
+table-right table code low test = eqb-true (getD table code 0) (codeEntry code) (all-at (right table) entries code test low)
 
--- ---- Codes from 36 on.
+-- ---- Codes past it.
 
 abbrev inTable : ℕ → Bool
-inTable a = ltb a 36
+inTable a = ltb a entries
 
-among-past : (l : List ℕ) → allOf inTable l ≡ true → (code : ℕ) → 36 ≤ code → (code among l) ≡ false
+among-past : (l : List ℕ) → allOf inTable l ≡ true → (code : ℕ) → entries ≤ code → (code among l) ≡ false
 unfolding allOf _among_
 among-past [] low code past = refl
 among-past (a ∷ l) low code past =
-    let here = ltb-true a 36 (and-left (inTable a) (allOf inTable l) low) in
+    let here = ltb-true a entries (and-left (inTable a) (allOf inTable l) low) in
     rw (ne-eqb a code (λ z. omega arith), among-past l (and-right (inTable a) (allOf inTable l) low) code past)
 
-known-past : (code : ℕ) → 36 ≤ code → known code ≡ false
+known-past : (code : ℕ) → entries ≤ code → known code ≡ false
 unfolding known allOf
 known-past code past = rw (among-past services refl code past, among-past interrupts refl code past)
 
-needs-past : (code : ℕ) → 36 ≤ code → needsTask code ≡ false
+needs-past : (code : ℕ) → entries ≤ code → needsTask code ≡ false
 unfolding needsTask allOf
 needs-past code past = rw (among-past services refl code past, ne-eqb code 34 (λ z. omega arith))
 
-pub entry-past : (code : ℕ) → 36 ≤ code → 0 ≡ codeEntry code
+pub entry-past : (code : ℕ) → entries ≤ code → 0 ≡ codeEntry code
 unfolding codeEntry
 entry-past code past = rw (needs-past code past, known-past code past)
 
