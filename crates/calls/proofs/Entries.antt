@@ -9,7 +9,8 @@ use lib.Dec.{eqb, ltb}
 use lib.ListN.{getD}
 use borrow.Author.Tests.{eqb-true, ne-eqb, ltb-true}
 use Rattle.words.specs.Words.{if_then_else_, below, allOf, _among_}
-use Rattle.words.proofs.Lists.{and-left, and-right, all-at}
+use Rattle.words.proofs.Lists.{all-at}
+use Rattle.words.proofs.Truth.{and-left, and-right}
 use Rattle.calls.specs.Calls.{services, interrupts, known, needsTask, codeEntry}
 
 -- how many the table has

@@ -5,7 +5,7 @@ use Prim.Native.Nat.{ℕ, _≤_}
 use native.Mathlib.Omega.{arith}
 use lib.Seq.{getD-set-same, getD-set-other}
 use Rattle.threads.specs.Threads.{counts}
-use Rattle.threads.proofs.Lists.{tested}
+use Rattle.words.proofs.Truth.{tested}
 use Rattle.words.specs.Words.{least}
 use Rattle.calls.specs.declared.Call.{Call}
 use Rattle.tables.specs.declared.Request.{Request}
@@ -16,8 +16,8 @@ use Rattle.tables.specs.Held.{Shows, Fit, Held}
 use Rattle.tables.proofs.Held.{held}
 use Rattle.meaning.specs.Channel.{queued, channelLevel}
 use Rattle.meaning.specs.Services.{asked}
-use Rattle.lawful.proofs.Shape.{one-other}
-use Rattle.lawful.proofs.Queues.{counts-none, count-placed, set-queue, set-others}
+use Rattle.words.proofs.Counting.{one-other}
+use Rattle.threads.proofs.Queues.{counts-none, count-placed, set-queue, set-others}
 use Rattle.lawful.proofs.Channel.{freeRequests-some, freeRequests-low, freeRequests-free}
 use Rattle.channel.specs.Queue.{Owned, Entering}
 use Rattle.channel.specs.Transfer.{Transferring}

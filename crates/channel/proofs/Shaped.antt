@@ -3,7 +3,7 @@ use mathlib.Core.Logic.{⊎-elim}
 use mathlib.Core.List.{List}
 use Prim.Native.Nat.{ℕ, _≤_, _<_}
 use native.Mathlib.Omega.{arith}
-use Rattle.threads.proofs.Lists.{tested}
+use Rattle.words.proofs.Truth.{tested}
 use Rattle.tables.specs.Blocks.{Free}
 use Rattle.tables.specs.State.{State, requestAt, taskAt}
 use Rattle.lawful.specs.Shape.{placeOf, Shape}

@@ -18,7 +18,7 @@ use Rattle.meaning.specs.Finish.{freedRequest, pending, finished}
 use Rattle.meaning.specs.Services.{ioDone}
 use Rattle.lawful.specs.Shape.{InHand}
 use Rattle.lawful.specs.Resting.{Lawful}
-use Rattle.lawful.proofs.Truth.{both}
+use Rattle.words.proofs.Truth.{both}
 use Rattle.lawful.proofs.Made.{made-ready}
 use Rattle.lawful.proofs.IoDone.{owner, off, freed-hand, freed-rest, freed-finishes, done-first}
 use Rattle.scheduler.proofs.Shaped.{shape-held, hand-loose}

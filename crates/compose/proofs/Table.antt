@@ -5,7 +5,7 @@ use mathlib.Core.List.{List, [], _∷_}
 use Prim.Native.Nat.{ℕ, zero, suc, _<_}
 use native.Mathlib.Omega.{arith}
 use lib.ListN.{length, getD}
-use Rattle.words.proofs.Lists.{and-left, and-right}
+use Rattle.words.proofs.Truth.{and-left, and-right}
 use Rattle.compose.specs.Calls.{codeOrNone}
 use Rattle.compose.specs.declared.verbs.Row.{Row}
 

@@ -17,7 +17,8 @@ use Rattle.tables.specs.Blocks.{Free, Running, Ending, Queued, OnChannel, Done}
 use Rattle.tables.specs.State.{State, eventQueue, coreQueue, channelQueue, node, taskAt, requestAt, poolAt, queue, levelOf, unitsOf, read}
 use Rattle.meaning.specs.Rules.{queueFor, holdsUnit, rulesHold}
 use Rattle.meaning.specs.Step.{stepOf}
-use Rattle.lawful.specs.Shape.{one, placeOf}
+use Rattle.lawful.specs.Shape.{placeOf}
+use Rattle.words.specs.Counting.{one}
 use Rattle.lawful.specs.Resting.{Lawful}
 use Rattle.lawful.specs.Reached.{Reached}
 use Rattle.lawful.proofs.Members.{level-best, level-worst, member-some, member-low, channel-high, channel-low}

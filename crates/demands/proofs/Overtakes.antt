@@ -2,7 +2,7 @@
 use mathlib.Core.Logic.{⊎-elim}
 use mathlib.Core.List.{List}
 use Prim.Native.Nat.{ℕ, _≤_}
-use Rattle.threads.proofs.Lists.{tested}
+use Rattle.words.proofs.Truth.{tested}
 use Rattle.words.specs.Rows.{firstOf}
 use Rattle.tables.specs.declared.Tables.{Tables}
 use Rattle.tables.specs.State.{read}

@@ -6,7 +6,7 @@ use mathlib.Core.List.{List, [], _∷_}
 use Prim.Native.Nat.{ℕ, _≤_}
 use native.Mathlib.Omega.{arith}
 use Rattle.threads.specs.Threads.{count}
-use Rattle.threads.proofs.Lists.{tested}
+use Rattle.words.proofs.Truth.{tested}
 use Rattle.words.specs.Words.{oneTo, each}
 use Rattle.tables.specs.declared.Tables.{Tables}
 use Rattle.tables.specs.Blocks.{Done}
@@ -14,9 +14,10 @@ use Rattle.tables.specs.State.{State, taskAt, requestAt, read}
 use Rattle.tables.specs.Held.{Shows}
 use Rattle.meaning.specs.Finish.{givenBack, freedIfDone, freedDone}
 use Rattle.lawful.specs.Shape.{Shape, InHand}
-use Rattle.lawful.proofs.Shape.{one-same, held-place}
-use Rattle.lawful.proofs.Tests.{to-top}
-use Rattle.lawful.proofs.Queues.{count-cons}
+use Rattle.lawful.proofs.Shape.{held-place}
+use Rattle.words.proofs.Counting.{one-same}
+use Rattle.threads.proofs.Tests.{to-top}
+use Rattle.threads.proofs.Queues.{count-cons}
 use Rattle.lawful.proofs.Ask.{free-request}
 use Rattle.lawful.proofs.Given.{gives-back}
 use Rattle.lawful.proofs.Finish.{grab, parent-low, parent-links}

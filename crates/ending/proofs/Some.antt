@@ -1,23 +1,16 @@
 -- Laws of `someOf` over 1 .. n: how a loop gathers whether some number passes a test. By induction on the list.
-use mathlib.Core.Bool.{Bool, true, false, _||_}
+use mathlib.Core.Bool.{Bool, false, _||_}
 use mathlib.Core.Path.{_≡_, refl, ap, _∙_}
 use mathlib.Core.List.{List, [], _∷_, _++_}
 use Prim.Native.Nat.{ℕ, suc, _+_, _≤_}
 use native.Mathlib.Numerals.{add-one}
 use native.Mathlib.Omega.{arith}
+use Rattle.words.proofs.Truth.{or-assoc, or-none}
 use Rattle.words.specs.Words.{oneTo, someOf}
-
-or-false : (a : Bool) → (a || false) ≡ a
-or-false true = refl
-or-false false = refl
-
-or-assoc : (a b c : Bool) → (a || (b || c)) ≡ (a || b || c)
-or-assoc true b c = refl
-or-assoc false b c = refl
 
 some-last : (p : ℕ → Bool) (l : List ℕ) (x : ℕ) → someOf p (l ++ x ∷ []) ≡ (someOf p l || p x)
 unfolding someOf
-some-last p [] x = or-false (p x)
+some-last p [] x = or-none (p x)
 some-last p (a ∷ l) x = ap (λ (b : Bool). p a || b) (some-last p l x) ∙ or-assoc (p a) (someOf p l) (p x)
 
 module _ (p : ℕ → Bool) where

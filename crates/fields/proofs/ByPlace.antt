@@ -1,19 +1,18 @@
 -- A block by its place: what is left of its rules where it is free, where it is used, and in each place of a used task.
 use mathlib.Core.Bool.{Bool, true, false, not, _&&_, _||_, Bool·beq}
-use mathlib.Core.Path.{_≡_, refl, sym, ap, _∙_}
+use mathlib.Core.Path.{_≡_, refl, sym}
 use mathlib.Core.Logic.{_≢_, ⊎-elim}
-use Prim.Native.Nat.{ℕ, _+_}
+use Prim.Native.Nat.{ℕ}
 use lib.Dec.{eqb, leb, ltb}
 use borrow.Author.Tests.{ne-eqb}
-use Rattle.threads.proofs.Lists.{tested}
+use Rattle.words.proofs.Truth.{tested, and-assoc, and-true, or-none}
 use Rattle.words.specs.Words.{if_then_else_, _implies_}
 use Rattle.tables.specs.declared.Task.{Task}
 use Rattle.tables.specs.declared.Request.{Request}
 use Rattle.tables.specs.Blocks.{InCore, InEvent, InTime, InCheck}
 use Rattle.meaning.specs.Rules.{queueFor, blankTask, requestInRange, blankRequest}
 use Rattle.fields.specs.Blocks.{fieldsRight, coreRight, ownRight, placeRight, waiterRight, pendingRight, requestRight}
-use Rattle.lawful.proofs.Blanks.{task-blank, request-blank}
-use Rattle.pointers.proofs.Tests.{and-assoc, and-right, or-none}
+use Rattle.meaning.proofs.Blanks.{task-blank, request-blank}
 
 -- ---- Tests of which one is known.
 
@@ -37,9 +36,9 @@ is-true : (b : Bool) → Bool·beq b true ≡ b
 is-true true = refl
 is-true false = refl
 
-ruleset known = (low, and-right, and-none, or-all, or-none, is-false, is-true)
+ruleset known = (low, and-true, and-none, or-all, or-none, is-false, is-true)
 
-ruleset flat = (and-right, and-assoc)
+ruleset flat = (and-true, and-assoc)
 
 -- ---- A free task block: where it is zero, its fields keep every rule, and what is left is where it stands.
 

@@ -12,14 +12,14 @@ use Rattle.tables.specs.Blocks.{Free, InCheck}
 use Rattle.tables.specs.State.{State, read, node, taskAt, requestAt, entryFor, levelOf, unitsOf}
 use Rattle.meaning.specs.Rules.{blankTask}
 use Rattle.fields.specs.Blocks.{fieldsRight, placeRight, waiterRight, pends, pendingRight, taskPasses, Marked, requestMarked, requestPasses}
-use Rattle.lawful.proofs.Tests.{all-to, to-all}
-use Rattle.pointers.proofs.Tests.{same-test}
+use Rattle.threads.proofs.Tests.{all-to, to-all}
+use Rattle.words.proofs.Truth.{same-truth}
 use Rattle.fields.proofs.ByPlace.{free-whole}
 
 -- two tests that agree on each block
 all-same : (p q : ℕ → Bool) (n : ℕ) → ((k : ℕ) → 1 ≤ k → k ≤ n → p k ≡ q k) → allOf p (oneTo n) ≡ allOf q (oneTo n)
 all-same p q n f =
-    same-test (allOf p (oneTo n)) (allOf q (oneTo n)) (λ e. to-all q n (λ k l h. sym (f k l h) ∙ all-to p n e k l h))
+    same-truth (allOf p (oneTo n)) (allOf q (oneTo n)) (λ e. to-all q n (λ k l h. sym (f k l h) ∙ all-to p n e k l h))
     (λ e. to-all p n (λ k l h. f k l h ∙ all-to q n e k l h))
 
 -- the request blocks, by the marks

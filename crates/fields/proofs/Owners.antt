@@ -6,7 +6,7 @@ use Prim.Native.Nat.{ℕ, _≤_, _<_}
 use native.Mathlib.Omega.{arith}
 use lib.Dec.{eqb}
 use borrow.Author.Tests.{eq-eqb, ne-eqb}
-use Rattle.threads.proofs.Lists.{tested}
+use Rattle.words.proofs.Truth.{tested, fails-right}
 use Rattle.words.specs.Words.{has, adding}
 use Rattle.words.proofs.Changes.{has-adding}
 use Rattle.tables.specs.declared.Request.{Request}
@@ -15,10 +15,6 @@ use Rattle.fields.specs.Blocks.{pends}
 or-false : (a b : Bool) → b ≡ false → a ≡ (a || b)
 or-false true b e = refl
 or-false false b e = sym e
-
-and-false : (a b : Bool) → b ≡ false → (a && b) ≡ false
-and-false true b e = e
-and-false false b e = refl
 
 and-all : (a b : Bool) → b ≡ true → (a && b) ≡ a
 and-all true b e = e
@@ -34,7 +30,7 @@ module _ (owners : ℕ) (q : Request) (k : ℕ) where
       ∙ ap (λ (b : Bool). has owners k || b) (eqb-swap k (q .owner) ∙ sym (and-all (eqb (q .owner) k) _ h))
 
   pub owner-not : (eqb (q .place) 1 || eqb (q .place) 2) ≡ false → has owners k ≡ (has owners k || pends k q)
-  owner-not h = or-false (has owners k) _ (and-false (eqb (q .owner) k) _ h)
+  owner-not h = or-false (has owners k) _ (fails-right (eqb (q .owner) k) _ h)
 
   pub owner-high : 24 < q .owner → k ≤ 24 → has owners k ≡ (has owners k || pends k q)
   owner-high h l = or-false (has owners k) _ (rw (ne-eqb (q .owner) k (λ e. omega arith)))

@@ -8,7 +8,8 @@ use native.Mathlib.Omega.{arith}
 use borrow.Author.Tests.{eqb-true, eq-eqb}
 use lib.ListN.{getD}
 use Rattle.words.specs.Words.{below, allOf}
-use Rattle.words.proofs.Lists.{and-left, and-right, all-at, all-shown}
+use Rattle.words.proofs.Lists.{all-at, all-shown}
+use Rattle.words.proofs.Truth.{and-left, and-right}
 use Rattle.sealed.specs.Sealed.{zeroAt}
 use Rattle.image.specs.Block.{fillersZero}
 

@@ -10,7 +10,8 @@ use lib.Dec.{eqb, leb}
 use borrow.Author.Tests.{eqb-true, leb-true}
 use Rattle.words.specs.Rows.{firstOf}
 use Rattle.words.proofs.Rows.{row-passed}
-use Rattle.words.proofs.Lists.{and-left, and-right, all-at}
+use Rattle.words.proofs.Lists.{all-at}
+use Rattle.words.proofs.Truth.{and-left, and-right}
 use Rattle.image.specs.declared.Directory.{Directory}
 use Rattle.image.specs.Directory.{entryAt, modulesGood, everyGood, entryGood, entryBlank, usedGood, unusedBlank, entriesPass, directoryRows}
 use Rattle.image.specs.Write.{Small}

@@ -1,6 +1,6 @@
 -- A call that no row of the refusals stops is accepted: each row of the table, since it does not apply, gives one field of `Accepts`.
-use mathlib.Core.Bool.{Bool, true, false, not, _&&_, _||_, true≢false}
-use mathlib.Core.Path.{_≡_, refl, sym, ap, _∙_}
+use mathlib.Core.Bool.{true, false, not, _&&_, _||_}
+use mathlib.Core.Path.{_≡_, refl, ap, _∙_}
 use mathlib.Core.Logic.{_≢_, ⊎-elim}
 use mathlib.Core.List.{List, [], _∷_}
 use Prim.Native.Nat.{ℕ, zero, suc, _+_, _≤_}
@@ -24,20 +24,7 @@ use Rattle.meaning.specs.Rules.{rulesHold}
 use Rattle.meaning.specs.Refusals.{starts, tellsEvents, transfers, waits, undefined, held, badCount, badKind, clockEnd, callRows, refusals}
 use Rattle.lawful.specs.Resting.{Lawful}
 use Rattle.lawful.specs.Accepts.{Accepts}
-use Rattle.lawful.proofs.Truth.{both, and-of}
-
--- ---- Tests that fail.
-pub and-fails : (a b : Bool) → (a && b) ≡ false → a ≡ true → b ≡ false
-and-fails true b e f = e
-and-fails false b e f = absurd (true≢false (sym f))
-
-or-left : (a b : Bool) → (a || b) ≡ false → a ≡ false
-or-left true b e = absurd (true≢false e)
-or-left false b e = refl
-
-or-right : (a b : Bool) → (a || b) ≡ false → b ≡ false
-or-right true b e = absurd (true≢false e)
-or-right false b e = e
+use Rattle.words.proofs.Truth.{both, and-of, and-fails, or-left, or-right}
 
 beyond : (l : List Request) (i : ℕ) → length l ≤ i → getD l i noRequest ≡ noRequest
 beyond [] i h = refl

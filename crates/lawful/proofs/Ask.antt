@@ -9,7 +9,7 @@ use native.Mathlib.Omega.{arith}
 use lib.ListN.{length, set, getD, length-set}
 use lib.Seq.{getD-set-same, getD-set-other}
 use Rattle.threads.specs.Threads.{count}
-use Rattle.threads.proofs.Lists.{tested}
+use Rattle.words.proofs.Truth.{tested}
 use Rattle.words.specs.Words.{upBy}
 use Rattle.words.proofs.Changes.{adding-low}
 use Rattle.tables.specs.declared.Request.{Request}
@@ -17,11 +17,12 @@ use Rattle.tables.specs.State.{State, channelQueue, timeQueue, node, withChanne
 use Rattle.tables.specs.Blocks.{Free, InCheck, Ending, Queued, OnChannel, Done, noRequest}
 use Rattle.meaning.specs.Channel.{channelLevel}
 use Rattle.meaning.specs.Finish.{freedRequest}
-use Rattle.lawful.specs.Shape.{one, bit, placeOf, Pending, Carried, Shape}
-use Rattle.lawful.proofs.Shape.{one-same, one-other}
-use Rattle.lawful.proofs.Queues.{up-same}
+use Rattle.lawful.specs.Shape.{placeOf, Pending, Carried, Shape}
+use Rattle.words.specs.Counting.{one, bit}
+use Rattle.words.proofs.Counting.{one-same, one-other}
+use Rattle.threads.proofs.Queues.{up-same}
 use Rattle.lawful.proofs.Members.{channel-queued}
-use Rattle.lawful.proofs.Free.{added-same, added-other}
+use Rattle.words.proofs.Free.{added-same, added-other}
 
 module _ (s : State) (r : ℕ) (x : Request) where
   abbrev pub asking : ℕ → ℕ → List (List ℕ) → State

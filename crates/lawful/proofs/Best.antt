@@ -7,7 +7,7 @@ use Prim.Native.Nat.{ℕ, _≤_, _<_}
 use native.Mathlib.Omega.{arith}
 use lib.ListN.{getD}
 use Rattle.threads.specs.Threads.{hd, count, without}
-use Rattle.threads.proofs.Lists.{tested}
+use Rattle.words.proofs.Truth.{tested}
 use Rattle.words.specs.Rows.{firstOf}
 use Rattle.image.specs.Directory.{noEntry}
 use Rattle.tables.specs.declared.Tables.{Tables}
@@ -20,11 +20,11 @@ use Rattle.meaning.specs.Step.{accepted, stepOf}
 use Rattle.lawful.specs.Shape.{Shape}
 use Rattle.lawful.specs.Resting.{Settled}
 use Rattle.lawful.specs.Tables.{LawfulTables}
-use Rattle.lawful.proofs.Shape.{one-same}
+use Rattle.words.proofs.Counting.{one-same}
 use Rattle.lawful.proofs.Sums.{field-kept}
-use Rattle.lawful.proofs.Queues.{set-others, count-cons}
+use Rattle.threads.proofs.Queues.{set-others, count-cons}
 use Rattle.lawful.proofs.Members.{member-ready}
-use Rattle.lawful.proofs.Tests.{filled}
+use Rattle.threads.proofs.Tests.{filled}
 use Rattle.lawful.proofs.Cases.{best-some, kept, none-ready, dispatches}
 use Rattle.lawful.proofs.Newly.{first-best}
 use Rattle.lawful.proofs.Keeps.{settles, keeps}

@@ -8,7 +8,7 @@ use Prim.Native.Nat.{ℕ, _≤_, _<_}
 use native.Mathlib.Omega.{arith}
 use lib.ListN.{set}
 use lib.Seq.{getD-set-other}
-use Rattle.threads.proofs.Lists.{tested}
+use Rattle.words.proofs.Truth.{tested}
 use Rattle.words.specs.Words.{least}
 use Rattle.tables.specs.State.{State, withRunning}
 use Rattle.tables.specs.Blocks.{noTask}
@@ -22,7 +22,7 @@ use Rattle.lawful.specs.Accepts.{Condition}
 use Rattle.lawful.proofs.Enter.{hand-count}
 use Rattle.lawful.proofs.Made.{made-ready}
 use Rattle.lawful.proofs.Leave.{stop}
-use Rattle.lawful.proofs.Free.{least-in, least-some, least-low}
+use Rattle.words.proofs.Free.{least-in, least-some, least-low}
 use Rattle.lawful.proofs.Create.{create}
 use Rattle.lawful.proofs.Resting.{rest-alone, rest-made}
 use Rattle.lawful.proofs.Waits.{await-event, event-rest, await-time, time-rest}

@@ -9,7 +9,7 @@ use borrow.Author.Tests.{eqb-true, ltb-true, eq-eqb, ne-eqb, lt-ltb}
 use Rattle.words.specs.Words.{isEmpty}
 use Rattle.tables.specs.State.{State, taskAt, queue, unitsOf}
 use Rattle.meaning.specs.Ready.{needsCore, bestReady, runsFirst, dispatched}
-use Rattle.lawful.proofs.Truth.{both}
+use Rattle.words.proofs.Truth.{both}
 
 -- ---- Needing core.
 pub needs : (s : State) (k : ℕ) → unitsOf s k ≢ 0 → taskAt s k .core ≡ 0 → needsCore s k ≡ true

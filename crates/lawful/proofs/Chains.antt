@@ -8,15 +8,15 @@ use Prim.Native.Nat.{ℕ, zero, suc, _≤_, _<_}
 use native.Mathlib.Omega.{arith}
 use lib.Dec.{eqb, ltb}
 use borrow.Author.Tests.{ne-eqb, lt-ltb, le-ltb, eqb-true, eq-eqb}
-use Rattle.threads.proofs.Lists.{tested}
+use Rattle.words.proofs.Truth.{tested}
 use Rattle.words.proofs.Places.{under-or-from}
 use Rattle.tables.specs.declared.Task.{Task}
 use Rattle.tables.specs.State.{State, taskAt}
 use Rattle.tables.specs.Blocks.{noTask}
 use Rattle.meaning.specs.Rules.{upward, chainsEnd}
 use Rattle.lawful.specs.Shape.{Shape, Ranked}
-use Rattle.lawful.proofs.Tests.{all-to, to-all}
-use Rattle.lawful.proofs.Counted.{total, total-lt}
+use Rattle.threads.proofs.Tests.{all-to, to-all}
+use Rattle.words.proofs.Counted.{total, total-lt}
 
 -- ---- Chains of parents end: a parent has fewer lower it, by rank, than its child, and nobody has 24.
 -- 1 where a is lower than b

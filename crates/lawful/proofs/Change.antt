@@ -9,7 +9,7 @@ use native.Mathlib.Omega.{arith}
 use lib.ListN.{length, set, getD}
 use borrow.Author.Tests.{ne-eqb}
 use Rattle.threads.specs.Threads.{count}
-use Rattle.threads.proofs.Lists.{tested}
+use Rattle.words.proofs.Truth.{tested}
 use Rattle.words.specs.Words.{_among_, upBy}
 use Rattle.image.specs.declared.Directory.{Directory}
 use Rattle.tables.specs.declared.Task.{Task}
@@ -17,9 +17,10 @@ use Rattle.tables.specs.Blocks.{Free, InLink, noTask}
 use Rattle.tables.specs.State.{State, timeQueue, channelQueue, node, requestOf, withRunning, withFreeTasks, withPools, withTasks, withQueues, taskAt, requestAt, queue, levelOf}
 use Rattle.meaning.specs.Channel.{channelLevel}
 use Rattle.meaning.specs.Rules.{queueFor}
-use Rattle.lawful.specs.Shape.{one, bit, Hand, placeOf, moduleOf, Stands, Core, children, holding, Ranked, Shape}
+use Rattle.lawful.specs.Shape.{Hand, placeOf, moduleOf, Stands, Core, children, holding, Ranked, Shape}
+use Rattle.words.specs.Counting.{one, bit}
 use Rattle.lawful.proofs.Sums.{sum-kept}
-use Rattle.lawful.proofs.Queues.{up-same}
+use Rattle.threads.proofs.Queues.{up-same}
 use Rattle.lawful.proofs.Members.{channel-high, channel-low, channel-queued}
 
 -- ---- What a block does not see of a change.

@@ -9,7 +9,7 @@ use lib.ListN.{set, getD}
 use lib.Seq.{getD-set-same, getD-set-other}
 use lib.Dec.{eqb}
 use Rattle.threads.specs.Threads.{hd, count, without}
-use Rattle.threads.proofs.Lists.{tested}
+use Rattle.words.proofs.Truth.{tested}
 use Rattle.words.specs.Words.{if_then_else_, isEmpty, upBy, insertedBy, dropping, least}
 use Rattle.words.proofs.Changes.{dropping-low}
 use Rattle.tables.specs.declared.Request.{Request}
@@ -22,14 +22,14 @@ use Rattle.meaning.specs.Channel.{queued, channelFilled, channelLevel}
 use Rattle.meaning.specs.Services.{asked, readOrWrite, awaitsRequest, check}
 use Rattle.lawful.specs.Shape.{Pending, Carried, Shape}
 use Rattle.lawful.specs.Resting.{Asleep, Stuck, Rest, Lawful, Settled}
-use Rattle.lawful.proofs.Tests.{emptied, filled}
-use Rattle.lawful.proofs.Shape.{one-same, one-other, one-eq}
-use Rattle.lawful.proofs.Queues.{count-cons, count-without, count-placed, set-nine, set-queue, set-others, up-same, up-placed, up-without}
+use Rattle.threads.proofs.Tests.{emptied, filled}
+use Rattle.words.proofs.Counting.{one-same, one-other, one-eq}
+use Rattle.threads.proofs.Queues.{count-cons, count-without, count-placed, set-nine, set-queue, set-others, up-same, up-placed, up-without}
 use Rattle.lawful.proofs.Fields.{check-fields}
 use Rattle.lawful.proofs.Enter.{hand-stands}
 use Rattle.lawful.proofs.Members.{channel-high, channel-low, channel-queued, runs-place, runs-stands}
 use Rattle.lawful.proofs.Leave.{stop}
-use Rattle.lawful.proofs.Free.{least-in, least-some, least-low, dropped-same, dropped-other}
+use Rattle.words.proofs.Free.{least-in, least-some, least-low, dropped-same, dropped-other}
 use Rattle.lawful.proofs.Ask.{asking, ask, pending-kept, free-request}
 use Rattle.lawful.proofs.Link.{park, park-rest}
 use Rattle.lawful.proofs.Clearing.{rest-freed}

@@ -7,7 +7,8 @@ use Prim.Native.Nat.{ℕ, _≤_}
 use native.Mathlib.Omega.{arith}
 use lib.Seq.{getD-set-same, getD-set-other}
 use Rattle.threads.specs.Threads.{count}
-use Rattle.threads.proofs.Lists.{tested, count-nil}
+use Rattle.threads.proofs.Lists.{count-nil}
+use Rattle.words.proofs.Truth.{tested}
 use Rattle.words.specs.Words.{oneTo, each}
 use Rattle.tables.specs.declared.Request.{Request}
 use Rattle.tables.specs.State.{State, withFreeRequests, withRequests, requestAt}
@@ -16,9 +17,9 @@ use Rattle.meaning.specs.Conditions.{enough}
 use Rattle.meaning.specs.Finish.{freedRequest, freedIfDone, freedDone}
 use Rattle.lawful.specs.Shape.{Pending, Shape}
 use Rattle.lawful.specs.Resting.{Rest}
-use Rattle.lawful.proofs.Tests.{to-top}
-use Rattle.lawful.proofs.Shape.{one-same, one-other}
-use Rattle.lawful.proofs.Queues.{count-cons}
+use Rattle.threads.proofs.Tests.{to-top}
+use Rattle.words.proofs.Counting.{one-same, one-other}
+use Rattle.threads.proofs.Queues.{count-cons}
 use Rattle.lawful.proofs.Ask.{free-request}
 
 -- a state but for its requests

@@ -9,7 +9,7 @@ use native.Mathlib.Omega.{arith}
 use lib.ListN.{length, getD}
 use lib.Dec.{eqb}
 use borrow.Author.Tests.{eqb-true, eq-eqb}
-use Rattle.threads.proofs.Lists.{tested}
+use Rattle.words.proofs.Truth.{tested}
 use Rattle.words.specs.Words.{if_then_else_, oneTo, below, allOf, howMany, has}
 use Rattle.words.proofs.Lists.{all-at, all-shown}
 use Rattle.words.proofs.Masks.{has-run}
@@ -21,12 +21,13 @@ use Rattle.tables.specs.State.{State, taskAt, poolAt, levelOf, unitsOf}
 use Rattle.pools.specs.Pools.{inRun, run}
 use Rattle.pools.proofs.Runs.{run-low}
 use Rattle.meaning.specs.Rules.{holdsUnit, coreHeld, linked}
-use Rattle.lawful.specs.Shape.{one, bit, sum, moduleOf, holding, Core, children}
-use Rattle.lawful.proofs.Shape.{one-other}
-use Rattle.lawful.proofs.Tests.{all-to, to-all}
-use Rattle.lawful.proofs.Bits.{bit-of, bit-high}
+use Rattle.lawful.specs.Shape.{moduleOf, holding, Core, children}
+use Rattle.words.specs.Counting.{one, bit, sum}
+use Rattle.words.proofs.Counting.{one-other}
+use Rattle.threads.proofs.Tests.{all-to, to-all}
+use Rattle.words.proofs.Bits.{bit-of, bit-high}
 use Rattle.lawful.proofs.Cored.{holding-own, holding-none, holding-other}
-use Rattle.lawful.proofs.Counted.{sum-many}
+use Rattle.words.proofs.Counted.{sum-many}
 
 -- ---- One task and one unit.
 

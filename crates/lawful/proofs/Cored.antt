@@ -10,7 +10,7 @@ use lib.ListN.{length, set, getD, length-set}
 use lib.Seq.{getD-set-same, getD-set-other}
 use lib.Bits.{bitAnd}
 use borrow.Author.Tests.{eq-eqb, ne-eqb}
-use Rattle.threads.proofs.Lists.{tested}
+use Rattle.words.proofs.Truth.{tested}
 use Rattle.words.specs.Words.{_among_}
 use Rattle.image.specs.declared.Directory.{Directory}
 use Rattle.image.specs.Directory.{noEntry}
@@ -24,12 +24,13 @@ use Rattle.pools.proofs.Starts.{start-free}
 use Rattle.pools.proofs.Runs.{granted-low, run-apart}
 use Rattle.meaning.specs.Ready.{startFor, givenRun}
 use Rattle.meaning.specs.Rules.{queueFor}
-use Rattle.lawful.specs.Shape.{one, bit, Hand, placeOf, moduleOf, Fields, Stands, holding, Core, Shape}
+use Rattle.lawful.specs.Shape.{Hand, placeOf, moduleOf, Fields, Stands, holding, Core, Shape}
+use Rattle.words.specs.Counting.{one, bit}
 use Rattle.lawful.proofs.Change.{change, ranked-kept}
 use Rattle.lawful.proofs.Fields.{cored-fields}
-use Rattle.lawful.proofs.Queues.{up-same}
+use Rattle.threads.proofs.Queues.{up-same}
 use Rattle.lawful.proofs.Sums.{field-kept, sum-set, sum-kept, sum-le}
-use Rattle.lawful.proofs.Bits.{bit-add, bit-sub}
+use Rattle.words.proofs.Bits.{bit-add, bit-sub}
 use Rattle.lawful.proofs.Members.{level-best, level-worst}
 
 -- ---- What one task holds of a unit.

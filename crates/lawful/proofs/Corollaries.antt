@@ -17,16 +17,17 @@ use Rattle.tables.specs.declared.Task.{Task}
 use Rattle.tables.specs.State.{State, node, taskAt, requestAt, poolAt, queue, levelOf}
 use Rattle.tables.specs.Blocks.{noTask}
 use Rattle.meaning.specs.Rules.{queueFor, holdsUnit}
-use Rattle.lawful.specs.Shape.{sum, one, placeOf, Shape, holding}
+use Rattle.lawful.specs.Shape.{placeOf, Shape, holding}
+use Rattle.words.specs.Counting.{sum, one}
 use Rattle.lawful.proofs.PlaceRules.{channelFor, only-channel}
 use Rattle.lawful.proofs.CoreRules.{holding-number, units-held}
 use Rattle.lawful.proofs.Cored.{used-holder}
 use Rattle.lawful.proofs.Members.{level-best, level-worst}
 use Rattle.lawful.proofs.Sums.{sum-le}
-use Rattle.lawful.proofs.Shape.{one-other, one-le, one-suc}
-use Rattle.lawful.proofs.Bits.{bit-le, bit-of}
-use Rattle.lawful.proofs.Truth.{both}
-use Rattle.lawful.proofs.Queues.{counts-none}
+use Rattle.words.proofs.Counting.{one-other, one-le, one-suc}
+use Rattle.words.proofs.Bits.{bit-le, bit-of}
+use Rattle.words.proofs.Truth.{both}
+use Rattle.threads.proofs.Queues.{counts-none}
 
 -- ---- A block stands in at most one queue, and there once.
 counts-one : (y a : ℕ) (ls : List (List ℕ)) → ((q : ℕ) → q < length ls → count y (getD ls q []) ≡ one a q) → counts y ls ≤ 1

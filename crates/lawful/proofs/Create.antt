@@ -11,7 +11,7 @@ use lib.Seq.{getD-set-same, getD-set-other}
 use lib.Dec.{eqb}
 use borrow.Author.Tests.{eq-eqb, ne-eqb}
 use Rattle.threads.specs.Threads.{count}
-use Rattle.threads.proofs.Lists.{tested}
+use Rattle.words.proofs.Truth.{tested}
 use Rattle.words.specs.Words.{_among_, dropping}
 use Rattle.words.proofs.Changes.{dropping-low}
 use Rattle.tables.specs.declared.Task.{Task}
@@ -19,15 +19,17 @@ use Rattle.tables.specs.State.{State, timeQueue, withFreeTasks, withTask, taskA
 use Rattle.tables.specs.Blocks.{Free, Running, InLink, noTask, newTask}
 use Rattle.meaning.specs.Services.{created}
 use Rattle.meaning.specs.Rules.{queueFor}
-use Rattle.lawful.specs.Shape.{one, bit, Hand, placeOf, Stands, children, Shape, InHand}
+use Rattle.lawful.specs.Shape.{Hand, placeOf, Stands, children, Shape, InHand}
+use Rattle.words.specs.Counting.{one, bit}
 use Rattle.lawful.proofs.Change.{change, past-hand, core-kept}
 use Rattle.lawful.proofs.Fields.{new-fields}
 use Rattle.lawful.proofs.Sums.{sum-set, sum-le}
-use Rattle.lawful.proofs.Shape.{one-sym, one-same, one-other, one-eq, held-place, other-place}
-use Rattle.lawful.proofs.Queues.{up-same}
+use Rattle.lawful.proofs.Shape.{held-place, other-place}
+use Rattle.words.proofs.Counting.{one-sym, one-same, one-other, one-eq}
+use Rattle.threads.proofs.Queues.{up-same}
 use Rattle.lawful.proofs.Cored.{holding-none}
 use Rattle.lawful.proofs.Members.{not-in}
-use Rattle.lawful.proofs.Free.{dropped-same, dropped-other}
+use Rattle.words.proofs.Free.{dropped-same, dropped-other}
 
 module _ {s : State} {h : List ℕ} (g : Shape s h 0) (k m p : ℕ) (some : 1 ≤ k) (low : k ≤ 24) (freeTasks : bit (s .freeTasks) k ≡ 1)
     (known : m < s .directory .modules) (parent : p ≤ 24) (apart : p ≢ k) where

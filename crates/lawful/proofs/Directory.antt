@@ -11,7 +11,7 @@ use Rattle.image.specs.declared.Directory.{Directory}
 use Rattle.image.specs.Directory.{entryAt, modulesGood, everyGood, entryGood, usedGood, entriesPass, directoryRows}
 use Rattle.meaning.specs.Rules.{directoryPasses}
 use Rattle.lawful.specs.Shape.{Passing}
-use Rattle.lawful.proofs.Truth.{both}
+use Rattle.words.proofs.Truth.{both}
 
 module _ (d : Directory) (e : directoryPasses d ≡ true) where
   rows : (modulesGood d ≡ true) × (everyGood d ≡ true) × (usedGood d ≡ true)

@@ -8,7 +8,7 @@ use native.Mathlib.Omega.{arith}
 use lib.ListN.{set, getD}
 use lib.Seq.{getD-set-other}
 use Rattle.threads.specs.Threads.{hd, count, without}
-use Rattle.threads.proofs.Lists.{tested}
+use Rattle.words.proofs.Truth.{tested}
 use Rattle.words.specs.Words.{isEmpty}
 use Rattle.image.specs.Directory.{noEntry}
 use Rattle.tables.specs.State.{State, eventQueue, channelQueue, coreQueue, taskAt, queue, unitsOf, withRunning}
@@ -17,13 +17,13 @@ use Rattle.meaning.specs.Ready.{placed, bestReady, runsFirst, dispatched}
 use Rattle.meaning.specs.Rules.{queueFor}
 use Rattle.lawful.specs.Shape.{Shape, InHand}
 use Rattle.lawful.specs.Resting.{Lawful, Settled}
-use Rattle.lawful.proofs.Tests.{emptied, filled}
+use Rattle.threads.proofs.Tests.{emptied, filled}
 use Rattle.lawful.proofs.Cases.{best-1, best-2, best-3, best-some, kept, none-ready, dispatches}
 use Rattle.lawful.proofs.Sums.{field-kept}
-use Rattle.lawful.proofs.Shape.{one-same, one-other}
+use Rattle.words.proofs.Counting.{one-same, one-other}
 use Rattle.lawful.proofs.Fields.{plain-fields}
 use Rattle.lawful.proofs.Put.{put}
-use Rattle.lawful.proofs.Queues.{set-others, count-cons}
+use Rattle.threads.proofs.Queues.{set-others, count-cons}
 use Rattle.lawful.proofs.Enter.{hand-stands, hand-count, hand-timed}
 use Rattle.lawful.proofs.Made.{stuck-same, asleep-same}
 use Rattle.lawful.proofs.Members.{member-stands, member-ready}

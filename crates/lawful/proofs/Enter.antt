@@ -8,17 +8,19 @@ use native.Mathlib.Omega.{arith}
 use lib.ListN.{set, getD}
 use lib.Seq.{getD-set-other}
 use Rattle.threads.specs.Threads.{count}
-use Rattle.threads.proofs.Lists.{tested}
+use Rattle.words.proofs.Truth.{tested}
 use Rattle.words.specs.Words.{upBy}
 use Rattle.tables.specs.declared.Task.{Task}
 use Rattle.tables.specs.State.{State, timeQueue, channelQueue, withTask, taskAt, queue, levelOf}
 use Rattle.tables.specs.Blocks.{Running, InLink, noTask}
 use Rattle.meaning.specs.Rules.{queueFor}
-use Rattle.lawful.specs.Shape.{one, Hand, Fields, Stands, Shape, InHand}
-use Rattle.lawful.proofs.Shape.{one-same, one-other, held-place}
+use Rattle.lawful.specs.Shape.{Hand, Fields, Stands, Shape, InHand}
+use Rattle.words.specs.Counting.{one}
+use Rattle.lawful.proofs.Shape.{held-place}
+use Rattle.words.proofs.Counting.{one-same, one-other}
 use Rattle.lawful.proofs.Fields.{SameTask}
 use Rattle.lawful.proofs.Put.{putting, put}
-use Rattle.lawful.proofs.Queues.{set-nine, set-queue, set-others, set-count, up-same}
+use Rattle.threads.proofs.Queues.{set-nine, set-queue, set-others, set-count, up-same}
 
 module _ {s : State} {k : ℕ} {h : List ℕ} {e : ℕ} (i : InHand s k h e) where
   pub hand-stands : Stands s Hand k

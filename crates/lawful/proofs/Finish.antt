@@ -7,7 +7,7 @@ use Prim.Native.Nat.{ℕ, _≤_}
 use native.Mathlib.Omega.{arith}
 use lib.Seq.{getD-set-same, getD-set-other}
 use Rattle.threads.specs.Threads.{count}
-use Rattle.threads.proofs.Lists.{tested}
+use Rattle.words.proofs.Truth.{tested}
 use Rattle.words.specs.Words.{if_then_else_, oneTo}
 use Rattle.tables.specs.declared.Task.{Task}
 use Rattle.tables.specs.State.{State, coreQueue, taskAt, requestAt, queue, levelOf, unitsOf, withFreeTasks}
@@ -17,13 +17,15 @@ use Rattle.meaning.specs.Ready.{placed}
 use Rattle.meaning.specs.Finish.{freedTask, givenBack, pending, freedDone, parentReady, finished, ended}
 use Rattle.meaning.specs.Services.{end}
 use Rattle.meaning.specs.Rules.{queueFor}
-use Rattle.lawful.specs.Shape.{one, placeOf, Pending, Shape, InHand}
+use Rattle.lawful.specs.Shape.{placeOf, Pending, Shape, InHand}
+use Rattle.words.specs.Counting.{one}
 use Rattle.lawful.specs.Resting.{Rest, Lawful, Settled}
 use Rattle.lawful.proofs.Clearing.{unasked, ClearsAll, done-cleared}
 use Rattle.lawful.proofs.Pendings.{quiet-of, pending-some}
-use Rattle.lawful.proofs.Tests.{one-to}
+use Rattle.threads.proofs.Tests.{one-to}
 use Rattle.lawful.proofs.Sums.{field-kept, sum-le}
-use Rattle.lawful.proofs.Shape.{one-same, one-other, one-eq, one-le, held-place}
+use Rattle.lawful.proofs.Shape.{held-place}
+use Rattle.words.proofs.Counting.{one-same, one-other, one-eq, one-le}
 use Rattle.lawful.proofs.Framed.{besides, frame-requests, frame-parents}
 use Rattle.lawful.proofs.Take.{take}
 use Rattle.lawful.proofs.Fields.{plain-fields}

@@ -18,8 +18,8 @@ use Rattle.meaning.specs.Ready.{placed, fits, needsCore, givenRun, readied, awa
 use Rattle.meaning.specs.Finish.{givenBack}
 use Rattle.calls.specs.declared.Call.{Call}
 use Rattle.lawful.proofs.Sums.{field-kept}
-use Rattle.lawful.proofs.Shape.{one-same}
-use Rattle.lawful.proofs.Queues.{count-cons}
+use Rattle.words.proofs.Counting.{one-same}
+use Rattle.threads.proofs.Queues.{count-cons}
 use Rattle.lawful.proofs.Small.{moves, cores, joins, leaves, Small, pools, block, lines, Chain, _next_, carried}
 
 -- ---- The small changes, of blocks of B and queues of Q.

@@ -7,7 +7,7 @@ use Prim.Native.Nat.{ℕ, _+_, _≤_}
 use native.Mathlib.Omega.{arith}
 use lib.ListN.{set, length-set}
 use lib.Seq.{getD-set-same, getD-set-other}
-use Rattle.threads.proofs.Lists.{tested}
+use Rattle.words.proofs.Truth.{tested}
 use Rattle.words.specs.Words.{_among_, adding}
 use Rattle.words.proofs.Changes.{adding-low}
 use Rattle.tables.specs.declared.Task.{Task}
@@ -15,14 +15,16 @@ use Rattle.tables.specs.State.{State, withFreeTasks, withTask, taskAt, requestA
 use Rattle.tables.specs.Blocks.{Free, Running, InLink, noTask}
 use Rattle.meaning.specs.Finish.{freedTask}
 use Rattle.meaning.specs.Rules.{queueFor}
-use Rattle.lawful.specs.Shape.{one, Hand, placeOf, Stands, children, Shape, InHand}
+use Rattle.lawful.specs.Shape.{Hand, placeOf, Stands, children, Shape, InHand}
+use Rattle.words.specs.Counting.{one}
 use Rattle.lawful.specs.Resting.{Rest}
 use Rattle.lawful.proofs.Change.{change, past-hand, core-kept, ranked-kept}
 use Rattle.lawful.proofs.Fields.{free-fields}
 use Rattle.lawful.proofs.Sums.{sum-set}
-use Rattle.lawful.proofs.Shape.{one-same, one-other, held-place, other-place, out-place, one-sym}
+use Rattle.lawful.proofs.Shape.{held-place, other-place, out-place}
+use Rattle.words.proofs.Counting.{one-same, one-other, one-sym}
 use Rattle.lawful.proofs.Cored.{holding-none}
-use Rattle.lawful.proofs.Free.{added-same, added-other}
+use Rattle.words.proofs.Free.{added-same, added-other}
 use Rattle.lawful.proofs.Enter.{hand-count, hand-runs, hand-timed}
 use Rattle.lawful.proofs.Resting.{rest-alone}
 

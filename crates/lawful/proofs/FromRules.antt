@@ -10,7 +10,7 @@ use lib.ListN.{length}
 use lib.Dec.{eqb}
 use borrow.Author.Tests.{eqb-true, eq-eqb, leb-true, ltb-true, not-true, not-false}
 use Rattle.threads.specs.Threads.{count, Apart}
-use Rattle.threads.proofs.Lists.{tested}
+use Rattle.words.proofs.Truth.{tested, both, implied}
 use Rattle.words.specs.Words.{_implies_, upBy}
 use Rattle.words.proofs.Places.{under-or-from}
 use Rattle.tables.specs.declared.Request.{Request}
@@ -23,14 +23,15 @@ use Rattle.meaning.specs.Channel.{channelLevel}
 use Rattle.meaning.specs.Rules.{onDefined, tasksInPlace, requestsInPlace, queuesInOrder, coreNeeded, owned, checksPending, endingPending, queueFor}
 use Rattle.meaning.proofs.Rules.{Keeps}
 use Rattle.meaning.proofs.Parts.{taskRange, requestRange, taskStands, requestStands, taskFree, requestFree, taskClear, requestClear, Ranges, ranges, Sets, sets, Clears, clears, task-range}
-use Rattle.lawful.specs.Shape.{one, placeOf, Fields, Stands, Carried, Sizes, Blank, Shape}
+use Rattle.lawful.specs.Shape.{placeOf, Fields, Stands, Carried, Sizes, Blank, Shape}
+use Rattle.words.specs.Counting.{one}
 use Rattle.lawful.specs.Resting.{Lawful}
-use Rattle.lawful.proofs.Shape.{one-same, one-other, rest-place}
-use Rattle.lawful.proofs.Truth.{both, implied}
-use Rattle.lawful.proofs.Tests.{all-to, set-of}
-use Rattle.lawful.proofs.Standing.{in-some}
+use Rattle.lawful.proofs.Shape.{rest-place}
+use Rattle.words.proofs.Counting.{one-same, one-other}
+use Rattle.threads.proofs.Tests.{all-to, set-of}
+use Rattle.threads.proofs.Standing.{in-some}
 use Rattle.lawful.proofs.Directory.{passing}
-use Rattle.lawful.proofs.Blanks.{task-blank, request-blank}
+use Rattle.meaning.proofs.Blanks.{task-blank, request-blank}
 use Rattle.lawful.proofs.PlaceRules.{task-placed}
 use Rattle.lawful.proofs.TaskRules.{neededAt, fields-of}
 use Rattle.lawful.proofs.RequestRules.{ownedAt, carried-of}
@@ -38,7 +39,7 @@ use Rattle.lawful.proofs.CoreRules.{core-of, links-of}
 use Rattle.lawful.proofs.Chains.{ranked-of}
 use Rattle.lawful.proofs.RestRules.{busy-of, asleep-of, flowing-of, stuck-of, passes-of}
 use Rattle.lawful.proofs.Pendings.{pending-at, pending-of, pending-some}
-use Rattle.lawful.proofs.Bits.{bit-of, and-within}
+use Rattle.words.proofs.Bits.{bit-of, and-within}
 
 module _ (s : State) (z : Sizes s) (low : (level : ℕ) → poolAt s level < 2 ^ 64) (u : Apart (s .queues)) (r : Keeps s) where
   range : Ranges s

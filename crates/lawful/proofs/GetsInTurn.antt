@@ -3,14 +3,15 @@ use mathlib.Core.Bool.{Bool, true, false, not, _||_, cond}
 use mathlib.Core.Path.{_≡_, refl, sym, ap, _∙_}
 use mathlib.Core.Logic.{_≢_, _⊎_, inl, inr, ⊎-elim}
 use mathlib.Core.List.{List, [], _∷_, _++_, append-nil}
-use Prim.Native.Nat.{ℕ, _+_, _≤_, _<_}
+use Prim.Native.Nat.{ℕ, _≤_, _<_}
 use native.Mathlib.Omega.{arith}
 use lib.ListN.{length, set, getD}
 use lib.Seq.{getD-set-other}
 use lib.Dec.{eqb, ltb}
 use borrow.Author.Tests.{ltb-true}
 use Rattle.threads.specs.Threads.{without}
-use Rattle.threads.proofs.Lists.{tested, count-nil, without-at}
+use Rattle.threads.proofs.Lists.{count-nil, without-at}
+use Rattle.words.proofs.Truth.{tested}
 use Rattle.words.specs.Words.{if_then_else_, isEmpty}
 use Rattle.image.specs.Directory.{noEntry}
 use Rattle.tables.specs.declared.Task.{Task}
@@ -23,8 +24,9 @@ use Rattle.lawful.specs.Shape.{Shape, InHand}
 use Rattle.lawful.specs.Resting.{Rest}
 use Rattle.lawful.proofs.Sums.{field-kept}
 use Rattle.lawful.proofs.Cases.{needs-true}
-use Rattle.lawful.proofs.Shape.{held-place, one-same}
-use Rattle.lawful.proofs.Queues.{set-queue, set-others, count-cons}
+use Rattle.lawful.proofs.Shape.{held-place}
+use Rattle.words.proofs.Counting.{one-same}
+use Rattle.threads.proofs.Queues.{set-queue, set-others, count-cons}
 use Rattle.lawful.proofs.Members.{level-best, level-worst}
 use Rattle.lawful.proofs.Cored.{grant, give-back, used-holder}
 use Rattle.lawful.proofs.Made.{ready-core}

@@ -8,7 +8,7 @@ use Prim.Native.Nat.{ℕ, zero, suc, _≤_}
 use native.Mathlib.Omega.{arith}
 use lib.Seq.{getD-set-other}
 use Rattle.threads.specs.Threads.{count}
-use Rattle.threads.proofs.Lists.{tested}
+use Rattle.words.proofs.Truth.{tested}
 use Rattle.words.specs.Words.{if_then_else_}
 use Rattle.tables.specs.declared.Task.{Task}
 use Rattle.tables.specs.Blocks.{Free, Ending, noTask}
@@ -23,7 +23,8 @@ use Rattle.meaning.specs.Finish.{freedTask, pending, finished, ended, unlinked,
 use Rattle.lawful.specs.Shape.{placeOf}
 use Rattle.lawful.specs.Resting.{Aborting, Lawful}
 use Rattle.lawful.specs.Reached.{taken, takenBy}
-use Rattle.lawful.proofs.Shape.{one-other, other-place, rest-place}
+use Rattle.lawful.proofs.Shape.{other-place, rest-place}
+use Rattle.words.proofs.Counting.{one-other}
 use Rattle.lawful.proofs.Members.{queue-place}
 use Rattle.lawful.proofs.Chains.{upward-none}
 use Rattle.lawful.proofs.Finish.{Finishes}

@@ -10,7 +10,8 @@ use lib.ListN.{set, getD}
 use lib.Seq.{set-set, getD-set-same, getD-set-other}
 use lib.Dec.{eqb}
 use Rattle.threads.specs.Threads.{count}
-use Rattle.threads.proofs.Lists.{tested, count-nil}
+use Rattle.threads.proofs.Lists.{count-nil}
+use Rattle.words.proofs.Truth.{tested}
 use Rattle.words.specs.Words.{if_then_else_, upBy}
 use Rattle.tables.specs.declared.Request.{Request}
 use Rattle.tables.specs.State.{State, eventQueue, channelQueue, requestOf, withChannel, taskAt, requestAt, queue, levelOf}
@@ -22,8 +23,9 @@ use Rattle.meaning.specs.Channel.{channelFilled, channelLevel}
 use Rattle.meaning.specs.Services.{ioDone}
 use Rattle.lawful.specs.Shape.{Hand, placeOf, Pending, Carried, Shape, InHand}
 use Rattle.lawful.specs.Resting.{Rest, Lawful, Settled}
-use Rattle.lawful.proofs.Shape.{one-same, one-other, one-eq, held-place, rest-place}
-use Rattle.lawful.proofs.Queues.{count-cons}
+use Rattle.lawful.proofs.Shape.{held-place, rest-place}
+use Rattle.words.proofs.Counting.{one-same, one-other, one-eq}
+use Rattle.threads.proofs.Queues.{count-cons}
 use Rattle.lawful.proofs.Take.{take}
 use Rattle.lawful.proofs.Members.{not-in, queue-place}
 use Rattle.lawful.proofs.Ask.{asking, ask, pending-kept, free-request}

@@ -5,15 +5,16 @@ use mathlib.Core.List.{List}
 use Prim.Native.Nat.{ℕ, _≤_, _<_}
 use native.Mathlib.Omega.{arith}
 use Rattle.threads.specs.Threads.{count, without}
-use Rattle.threads.proofs.Lists.{tested}
+use Rattle.words.proofs.Truth.{tested}
 use Rattle.tables.specs.State.{State, timeQueue, channelQueue, taskAt, queue, levelOf, withRunning, leaving}
 use Rattle.tables.specs.Blocks.{Running, InLink}
 use Rattle.meaning.specs.Rules.{queueFor}
-use Rattle.lawful.specs.Shape.{one, placeOf, Shape, InHand}
-use Rattle.lawful.proofs.Shape.{one-same, one-other}
+use Rattle.lawful.specs.Shape.{placeOf, Shape, InHand}
+use Rattle.words.specs.Counting.{one}
+use Rattle.words.proofs.Counting.{one-same, one-other}
 use Rattle.lawful.proofs.Take.{take}
 use Rattle.lawful.proofs.Members.{member-some, member-low, member-stands, member-queue, member-place, member-once, member-out, runs-stands, runs-place, not-in}
-use Rattle.lawful.proofs.Queues.{set-nine, set-queue, set-others, set-count, count-without, up-without}
+use Rattle.threads.proofs.Queues.{set-nine, set-queue, set-others, set-count, count-without, up-without}
 
 module _ {s : State} {h : List ℕ} {e : ℕ} (g : Shape s h e) (k q : ℕ) (low : q < 8) (c : 1 ≤ count k (queue s q)) where
   pub leave : InHand (leaving s q k) k h e

@@ -1,13 +1,6 @@
 -- Words: sums, bits, runs, tests, queues.
 pub mod Sums
 pub mod Shape
-pub mod Bits
-pub mod Free
-pub mod Counted
-pub mod Truth
-pub mod Queues
-pub mod Tests
-pub mod Standing
 pub mod Pendings
 -- The law of one changed task block, its cases, and that of one request block.
 pub mod Members
@@ -60,13 +53,11 @@ pub mod Accepted
 pub mod Corollaries
 -- The rules as tests and as records.
 pub mod Directory
-pub mod Blanks
 pub mod TaskRules
 pub mod PlaceRules
 pub mod RequestRules
 pub mod CoreRules
 pub mod RestRules
-pub mod Pointers
 pub mod FromRules
 pub mod ToRules
 -- Demands 1 and 3.

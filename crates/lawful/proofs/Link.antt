@@ -14,16 +14,17 @@ use Rattle.calls.specs.declared.Call.{Call}
 use Rattle.meaning.specs.Ready.{madeReady}
 use Rattle.meaning.specs.Services.{stopped, created, link}
 use Rattle.meaning.specs.Rules.{queueFor}
-use Rattle.lawful.specs.Shape.{one, bit, Fields, Pending, Shape, InHand}
+use Rattle.lawful.specs.Shape.{Fields, Pending, Shape, InHand}
+use Rattle.words.specs.Counting.{one, bit}
 use Rattle.lawful.specs.Resting.{Rest, Lawful, Settled}
-use Rattle.lawful.proofs.Shape.{one-same, one-other}
+use Rattle.words.proofs.Counting.{one-same, one-other}
 use Rattle.lawful.proofs.Fields.{SameTask, plain-fields}
 use Rattle.lawful.proofs.Put.{put}
 use Rattle.lawful.proofs.Enter.{hand-stands, hand-count, hand-runs, hand-timed}
 use Rattle.lawful.proofs.Made.{made-ready}
 use Rattle.lawful.proofs.Leave.{stop}
 use Rattle.lawful.proofs.Members.{runs-place, runs-stands, queue-place}
-use Rattle.lawful.proofs.Free.{least-in}
+use Rattle.words.proofs.Free.{least-in}
 use Rattle.lawful.proofs.Resting.{rest-alone, rest-made}
 use Rattle.lawful.proofs.Calls.{settled, new, new-rest, rest-stopped}
 

@@ -3,14 +3,14 @@ use mathlib.Core.Bool.{Bool, true, false, cond, not, _||_, true≢false}
 use mathlib.Core.Path.{_≡_, refl, sym, ap, ap₂, _∙_}
 use mathlib.Core.Logic.{_≢_, ⊎-elim}
 use mathlib.Core.List.{List, [], _∷_, _++_}
-use Prim.Native.Nat.{ℕ, _+_, _≤_, _<_}
+use Prim.Native.Nat.{ℕ, _≤_, _<_}
 use native.Mathlib.Omega.{arith}
 use lib.ListN.{set, getD}
 use lib.Seq.{getD-set-same, getD-set-other}
 use lib.Dec.{ltb}
 use borrow.Author.Tests.{ltb-true, ltb-false}
 use Rattle.threads.specs.Threads.{hd, count}
-use Rattle.threads.proofs.Lists.{tested}
+use Rattle.words.proofs.Truth.{tested}
 use Rattle.words.specs.Words.{isEmpty}
 use Rattle.image.specs.Directory.{noEntry}
 use Rattle.tables.specs.declared.Task.{Task}
@@ -27,7 +27,7 @@ use Rattle.lawful.proofs.Small.{none}
 use Rattle.lawful.proofs.Framed.{Framed, framed, readied-ready, awaits-ready, seats-ready}
 use Rattle.lawful.proofs.Sums.{field-kept}
 use Rattle.lawful.proofs.Shape.{held-place}
-use Rattle.lawful.proofs.Queues.{set-queue, set-others, count-last}
+use Rattle.threads.proofs.Queues.{set-queue, set-others, count-last}
 use Rattle.lawful.proofs.Members.{level-best, level-worst}
 use Rattle.lawful.proofs.Cored.{grant, core-units}
 use Rattle.lawful.proofs.Fields.{plain-fields, waiting-fields}

@@ -7,14 +7,14 @@ use mathlib.Core.List.{List}
 use Prim.Native.Nat.{ℕ, _+_, _-_, _≤_, _<_}
 use native.Mathlib.Omega.{arith}
 use Rattle.threads.specs.Threads.{count}
-use Rattle.threads.proofs.Lists.{tested}
+use Rattle.words.proofs.Truth.{tested}
 use Rattle.words.specs.Words.{_among_}
 use Rattle.words.proofs.Places.{under-or-from}
 use Rattle.tables.specs.State.{State, requestAt, channelQueue, queue, levelOf}
 use Rattle.tables.specs.Blocks.{Free, Running, Ready, InCore, InEvent, InTime}
 use Rattle.meaning.specs.Rules.{queueFor}
 use Rattle.lawful.specs.Shape.{Hand, placeOf, Stands, Shape}
-use Rattle.lawful.proofs.Shape.{one-same, one-other, one-eq, one-le}
+use Rattle.words.proofs.Counting.{one-same, one-other, one-eq, one-le}
 
 -- ---- What the directory says of a used block.
 module _ {s : State} {h : List ℕ} {e k : ℕ} (g : Shape s h e) (some : 1 ≤ k) (low : k ≤ 24) (used : placeOf s h k ≢ Free) where

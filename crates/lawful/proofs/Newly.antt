@@ -6,12 +6,12 @@ use mathlib.Core.List.{[]}
 use Prim.Native.Nat.{ℕ, _≤_, _<_}
 use native.Mathlib.Omega.{arith}
 use Rattle.threads.specs.Threads.{hd}
-use Rattle.threads.proofs.Lists.{tested}
+use Rattle.words.proofs.Truth.{tested}
 use Rattle.words.specs.Words.{isEmpty}
 use Rattle.tables.specs.State.{State, readyQueue, queue}
 use Rattle.meaning.specs.Ready.{bestReady, runsFirst, dispatched}
 use Rattle.lawful.specs.Reached.{First}
-use Rattle.lawful.proofs.Tests.{emptied, filled}
+use Rattle.threads.proofs.Tests.{emptied, filled}
 use Rattle.lawful.proofs.Cases.{best-0, best-1, best-2, best-3, kept, none-ready, dispatches}
 
 module _ (s : State) where

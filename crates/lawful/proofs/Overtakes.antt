@@ -9,7 +9,7 @@ use lib.ListN.{set, getD}
 use lib.Seq.{getD-set-other}
 use lib.Dec.{eqb, leb, ltb}
 use Rattle.threads.specs.Threads.{hd, count}
-use Rattle.threads.proofs.Lists.{tested}
+use Rattle.words.proofs.Truth.{tested, both}
 use Rattle.words.specs.Words.{if_then_else_, _among_, isEmpty, oneTo, each, adding, least}
 use Rattle.tables.specs.declared.Task.{Task}
 use Rattle.tables.specs.Blocks.{Ready, InLink, InCheck, Ending, Done, HoldsRun, noTask, newTask, moving, awaitingEvents, awaitingTime, awaitingRequest, withParent}
@@ -22,14 +22,14 @@ use Rattle.meaning.specs.Finish.{freedTask, freedRequest, givenBack, pending, f
 use Rattle.meaning.specs.Channel.{queued, channelFilled}
 use Rattle.meaning.specs.Services.{Effect, stopped, created, freemain, link, end, schedule, wait, woken, signal, testEvent, dispatchCheck, asked, readOrWrite, awaitsRequest, check, timely, timer, ioDone, programCheck, operatorStart, deeds, effect}
 use Rattle.meaning.proofs.Deeds.{Shown, every-deed}
-use Rattle.lawful.specs.Shape.{bit, Shape, InHand, Pending}
+use Rattle.lawful.specs.Shape.{Shape, InHand, Pending}
+use Rattle.words.specs.Counting.{bit}
 use Rattle.lawful.specs.Resting.{Rest, Lawful, Aborting}
 use Rattle.lawful.specs.Accepts.{Accepts}
 use borrow.Author.Tests.{eqb-true}
-use Rattle.lawful.proofs.Truth.{both}
 use Rattle.lawful.proofs.Cases.{best-some, kept, none-ready, dispatches}
-use Rattle.lawful.proofs.Shape.{one-same}
-use Rattle.lawful.proofs.Queues.{count-cons}
+use Rattle.words.proofs.Counting.{one-same}
+use Rattle.threads.proofs.Queues.{count-cons}
 use Rattle.lawful.proofs.Leave.{leave, stop}
 use Rattle.lawful.proofs.Pendings.{quiet-of}
 use Rattle.lawful.proofs.Clearing.{done-cleared}

@@ -8,16 +8,16 @@ use native.Mathlib.Omega.{arith}
 use lib.Dec.{eqb}
 use borrow.Author.Tests.{eqb-true, eq-eqb}
 use Rattle.threads.specs.Threads.{count}
-use Rattle.threads.proofs.Lists.{tested, count-nil}
+use Rattle.threads.proofs.Lists.{count-nil}
+use Rattle.words.proofs.Truth.{tested, both}
 use Rattle.words.specs.Words.{oneTo, someOf}
 use Rattle.tables.specs.State.{State, requestAt}
 use Rattle.tables.specs.Blocks.{Queued, OnChannel}
 use Rattle.meaning.specs.Finish.{pendingOf, pending}
 use Rattle.lawful.specs.Shape.{Pending}
-use Rattle.lawful.proofs.Truth.{both}
-use Rattle.lawful.proofs.Tests.{one-to, to-top}
-use Rattle.lawful.proofs.Shape.{one-same, one-other}
-use Rattle.lawful.proofs.Queues.{count-cons}
+use Rattle.threads.proofs.Tests.{one-to, to-top}
+use Rattle.words.proofs.Counting.{one-same, one-other}
+use Rattle.threads.proofs.Queues.{count-cons}
 
 some-none : (f : ℕ → Bool) (l : List ℕ) → someOf f l ≡ false → (y : ℕ) → 1 ≤ count y l → f y ≡ false
 unfolding someOf

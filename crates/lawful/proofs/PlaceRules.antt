@@ -10,17 +10,16 @@ use lib.ListN.{length, getD}
 use lib.Dec.{eqb}
 use borrow.Author.Tests.{eqb-true, eq-eqb}
 use Rattle.threads.specs.Threads.{count, Apart}
-use Rattle.threads.proofs.Lists.{tested}
+use Rattle.words.proofs.Truth.{tested, both, and-of}
 use Rattle.words.specs.Words.{if_then_else_, standing}
 use Rattle.tables.specs.Blocks.{Free, Running, Ready, InCore, InEvent, InTime, Queued, OnChannel}
 use Rattle.tables.specs.State.{State, channelQueue, node, taskAt, requestAt, queue, levelOf}
 use Rattle.meaning.specs.Rules.{queueFor}
 use Rattle.meaning.proofs.Parts.{taskStands, requestStands}
-use Rattle.lawful.specs.Shape.{one}
-use Rattle.lawful.proofs.Shape.{one-same, one-other}
-use Rattle.lawful.proofs.Truth.{both, and-of}
-use Rattle.lawful.proofs.Tests.{same-of, of-same-ones}
-use Rattle.lawful.proofs.Standing.{standing-counts, counts-standing}
+use Rattle.words.specs.Counting.{one}
+use Rattle.words.proofs.Counting.{one-same, one-other}
+use Rattle.threads.proofs.Tests.{same-of, of-same-ones}
+use Rattle.threads.proofs.Standing.{standing-counts, counts-standing}
 
 -- a block n stands in the queue q and in no other, q 9 for none
 pub record Only (ls : List (List ℕ)) (n q : ℕ) : Type 0 where

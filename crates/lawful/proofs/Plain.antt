@@ -14,10 +14,10 @@ use Rattle.pools.proofs.Units.{free-shown}
 use Rattle.pools.proofs.Starts.{start-first}
 use Rattle.tables.specs.State.{State, eventQueue, coreQueue, taskAt, poolAt, queue, unitsOf}
 use Rattle.meaning.specs.Conditions.{enough}
-use Rattle.lawful.specs.Shape.{one, bit}
+use Rattle.words.specs.Counting.{one, bit}
 use Rattle.lawful.specs.Resting.{Lawful}
-use Rattle.lawful.proofs.Shape.{one-same, one-eq}
-use Rattle.lawful.proofs.Queues.{count-cons}
+use Rattle.words.proofs.Counting.{one-same, one-eq}
+use Rattle.threads.proofs.Queues.{count-cons}
 use Rattle.lawful.proofs.Members.{member-stands, member-core}
 
 -- ---- Numbers that are 1 or 0.

@@ -8,18 +8,20 @@ use native.Mathlib.Omega.{arith}
 use lib.ListN.{length, set, getD, length-set}
 use lib.Seq.{getD-set-same, getD-set-other}
 use Rattle.threads.specs.Threads.{count}
-use Rattle.threads.proofs.Lists.{tested}
+use Rattle.words.proofs.Truth.{tested}
 use Rattle.words.specs.Words.{_among_, upBy}
 use Rattle.image.specs.Directory.{noEntry}
 use Rattle.tables.specs.declared.Task.{Task}
 use Rattle.tables.specs.State.{State, timeQueue, channelQueue, withRunning, withTask, withQueues, taskAt, queue, levelOf}
 use Rattle.tables.specs.Blocks.{Free, Running, InLink, InCheck, Ending, noTask}
 use Rattle.meaning.specs.Rules.{queueFor}
-use Rattle.lawful.specs.Shape.{one, Hand, placeOf, Fields, Pending, Stands, holding, children, Shape}
+use Rattle.lawful.specs.Shape.{Hand, placeOf, Fields, Pending, Stands, holding, children, Shape}
+use Rattle.words.specs.Counting.{one}
 use Rattle.lawful.proofs.Change.{change, past-hand, core-kept, ranked-kept}
 use Rattle.lawful.proofs.Fields.{SameTask}
 use Rattle.lawful.proofs.Sums.{field-kept, sum-kept}
-use Rattle.lawful.proofs.Shape.{held-place, other-place, out-place, one-other}
+use Rattle.lawful.proofs.Shape.{held-place, other-place, out-place}
+use Rattle.words.proofs.Counting.{one-other}
 
 -- ---- A task block put into a place.
 module _ (s : State) (k : ℕ) (x : Task) where

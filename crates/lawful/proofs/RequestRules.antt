@@ -9,7 +9,7 @@ use lib.ListN.{length}
 use lib.Dec.{eqb, leb}
 use borrow.Author.Tests.{eqb-true, eq-eqb, leb-true, le-leb}
 use Rattle.threads.specs.Threads.{Apart}
-use Rattle.threads.proofs.Lists.{tested}
+use Rattle.words.proofs.Truth.{tested, both, and-of, implied, of-implied, not-eq, unlike}
 use Rattle.words.specs.Words.{_implies_}
 use Rattle.tables.specs.declared.Task.{Task}
 use Rattle.tables.specs.declared.Request.{Request}
@@ -19,9 +19,8 @@ use Rattle.meaning.specs.Rules.{blankRequest}
 use Rattle.meaning.proofs.Parts.{requestRange, requestStands, requestFree, requestClear, request-range, request-in-range}
 use Rattle.lawful.specs.Shape.{Carried}
 use Rattle.lawful.proofs.Shape.{rest-place}
-use Rattle.lawful.proofs.Truth.{both, and-of, implied, of-implied, not-eq, unlike}
-use Rattle.lawful.proofs.Tests.{set-of, of-set}
-use Rattle.lawful.proofs.Blanks.{request-blank, of-request-blank}
+use Rattle.threads.proofs.Tests.{set-of, of-set}
+use Rattle.meaning.proofs.Blanks.{request-blank, of-request-blank}
 use Rattle.lawful.proofs.PlaceRules.{channel-others, channel-own, request-placed, only-channel, of-request-placed}
 
 -- "a used request's owner is a used task", of one block

@@ -18,10 +18,10 @@ use Rattle.meaning.specs.Ready.{startFor, fits}
 use Rattle.meaning.specs.Rules.{idleOnlyIfNoneReady, eventsWait, coreWaits, ofTheirLevel, channelBusy, eventsPass}
 use Rattle.lawful.specs.Shape.{Shape}
 use Rattle.lawful.specs.Resting.{Flowing, Asleep, Stuck, Busy}
-use Rattle.lawful.proofs.Shape.{one-same}
-use Rattle.lawful.proofs.Queues.{count-cons}
-use Rattle.lawful.proofs.Tests.{all-of, of-all, all-to, to-all, emptied}
-use Rattle.lawful.proofs.Truth.{both, and-of, implied, of-implied}
+use Rattle.words.proofs.Counting.{one-same}
+use Rattle.threads.proofs.Queues.{count-cons}
+use Rattle.threads.proofs.Tests.{all-of, of-all, all-to, to-all, emptied}
+use Rattle.words.proofs.Truth.{both, and-of, implied, of-implied}
 use Rattle.lawful.proofs.TaskRules.{Passes}
 use Rattle.lawful.proofs.Members.{member-stands, member-ready, member-core, member-event}
 

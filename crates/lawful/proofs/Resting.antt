@@ -13,8 +13,8 @@ use Rattle.pools.specs.Pools.{startOf}
 use Rattle.meaning.specs.Conditions.{enough}
 use Rattle.lawful.specs.Shape.{moduleOf, InHand}
 use Rattle.lawful.specs.Resting.{Asleep, Stuck, Rest}
-use Rattle.lawful.proofs.Shape.{one-same}
-use Rattle.lawful.proofs.Queues.{count-cons}
+use Rattle.words.proofs.Counting.{one-same}
+use Rattle.threads.proofs.Queues.{count-cons}
 use Rattle.lawful.proofs.Enter.{hand-count}
 use Rattle.lawful.proofs.Framed.{frame-on, frame-channel}
 use Rattle.lawful.proofs.Made.{Made}

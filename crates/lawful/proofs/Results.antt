@@ -11,7 +11,7 @@ use borrow.Author.Tests.{eqb-false, ltb-true, not-true, not-false}
 use Rattle.words.specs.Words.{_among_, allTrue, has}
 use Rattle.words.specs.Rows.{firstOf}
 use Rattle.words.proofs.Rows.{testOf}
-use Rattle.words.proofs.Members.{true-or-false}
+use Rattle.words.proofs.Truth.{true-or-false, both, and-fails}
 use Rattle.tables.specs.declared.Tables.{Tables}
 use Rattle.tables.specs.State.{State, read}
 use Rattle.calls.specs.declared.Call.{Call}
@@ -22,10 +22,9 @@ use Rattle.meaning.specs.Services.{Effect, freemain, link, end, schedule, wait,
 use Rattle.meaning.proofs.Rules.{all-rules}
 use Rattle.meaning.proofs.Parts.{sets}
 use Rattle.meaning.proofs.Deeds.{Shown, every-deed}
-use Rattle.lawful.proofs.Truth.{both}
-use Rattle.lawful.proofs.Bits.{bit-of}
-use Rattle.lawful.proofs.Free.{least-some}
-use Rattle.lawful.proofs.Accepted.{and-fails, not-by, rows-left}
+use Rattle.words.proofs.Bits.{bit-of}
+use Rattle.words.proofs.Free.{least-some}
+use Rattle.lawful.proofs.Accepted.{not-by, rows-left}
 
 tells-some : (s : State) (c : Call) → 1 ≤ testEvent s c .result
 unfolding testEvent

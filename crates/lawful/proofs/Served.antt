@@ -9,7 +9,8 @@ use native.Mathlib.Omega.{arith}
 use lib.Dec.{ltb}
 use borrow.Author.Tests.{ltb-true, ltb-false}
 use Rattle.threads.specs.Threads.{hd, count, without}
-use Rattle.threads.proofs.Lists.{tested, count-nil, without-at}
+use Rattle.threads.proofs.Lists.{count-nil, without-at}
+use Rattle.words.proofs.Truth.{tested}
 use Rattle.words.specs.Words.{if_then_else_, isEmpty}
 use Rattle.tables.specs.State.{State, eventQueue, channelQueue, coreQueue, queue, levelOf, leaving}
 use Rattle.meaning.specs.Conditions.{enough}
@@ -19,8 +20,8 @@ use Rattle.lawful.specs.Resting.{Asleep, Stuck, Flowing, Rest}
 use Rattle.lawful.proofs.Cases.{needs}
 use Rattle.lawful.proofs.Small.{none}
 use Rattle.lawful.proofs.Framed.{Any, Framed, framed, frame-on, frame-channel, served-ready}
-use Rattle.lawful.proofs.Shape.{one-same}
-use Rattle.lawful.proofs.Queues.{set-queue, set-others, count-cons}
+use Rattle.words.proofs.Counting.{one-same}
+use Rattle.threads.proofs.Queues.{set-queue, set-others, count-cons}
 use Rattle.lawful.proofs.Members.{member-stands, member-core}
 use Rattle.lawful.proofs.Enter.{hand-count}
 use Rattle.lawful.proofs.Made.{Seated, seats, asleep-same, stuck-same}

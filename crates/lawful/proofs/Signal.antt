@@ -10,20 +10,22 @@ use lib.ListN.{set}
 use lib.Bits.{bitAnd}
 use borrow.Author.Tests.{leb-false, lt-leb}
 use Rattle.threads.specs.Threads.{count, without}
-use Rattle.threads.proofs.Lists.{tested, count-nil}
+use Rattle.threads.proofs.Lists.{count-nil}
+use Rattle.words.proofs.Truth.{tested}
 use Rattle.words.specs.Words.{if_then_else_, each, adding, dropping, size}
 use Rattle.tables.specs.State.{State, eventQueue, channelQueue, coreQueue, taskAt, queue, withOn, leaving}
 use Rattle.calls.specs.declared.Call.{Call}
 use Rattle.meaning.specs.Conditions.{enough}
 use Rattle.meaning.specs.Ready.{madeReady}
 use Rattle.meaning.specs.Services.{woken, signal}
-use Rattle.lawful.specs.Shape.{bit, Shape, InHand}
+use Rattle.lawful.specs.Shape.{Shape, InHand}
+use Rattle.words.specs.Counting.{bit}
 use Rattle.lawful.specs.Resting.{Asleep, Rest, Lawful, Settled}
-use Rattle.lawful.proofs.Bits.{fewer}
+use Rattle.words.proofs.Bits.{fewer}
 use Rattle.lawful.proofs.Still.{timed-on, shape-on}
-use Rattle.lawful.proofs.Shape.{one-same, one-other}
-use Rattle.lawful.proofs.Free.{added-same, added-other, dropped-same, dropped-other}
-use Rattle.lawful.proofs.Queues.{count-cons, count-without, set-queue, set-others}
+use Rattle.words.proofs.Counting.{one-same, one-other}
+use Rattle.words.proofs.Free.{added-same, added-other, dropped-same, dropped-other}
+use Rattle.threads.proofs.Queues.{count-cons, count-without, set-queue, set-others}
 use Rattle.lawful.proofs.Enter.{hand-count}
 use Rattle.lawful.proofs.Made.{made-ready}
 use Rattle.lawful.proofs.Leave.{leave}

@@ -1,13 +1,11 @@
 -- Demand 3: whatever the tables and the call are, a step leaves tables that pass the rules where it was given such; and so all tables that are reached
 -- from an image that loads pass them. The rules as tests are the rules as records, and each accepted call keeps those.
 use mathlib.Core.Bool.{true}
-use mathlib.Core.Path.{_≡_, refl, ap, _∙_}
+use mathlib.Core.Path.{_≡_, refl, ap}
 use mathlib.Core.Logic.{⊎-elim}
 use mathlib.Core.List.{List}
 use Prim.Native.Nat.{ℕ}
-use lib.ListN.{length, length-map}
-use Rattle.threads.specs.declared.Threads.{Threads}
-use Rattle.threads.specs.Threads.{queuesOf, threaded}
+use Rattle.threads.specs.Threads.{threaded}
 use Rattle.threads.proofs.Read.{read-back, sound}
 use Rattle.words.specs.Words.{allTrue}
 use Rattle.words.specs.Rows.{firstOf}
@@ -24,8 +22,8 @@ use Rattle.meaning.proofs.Loaded.{load-lawful}
 use Rattle.lawful.specs.Resting.{Lawful}
 use Rattle.lawful.specs.Tables.{Typed, LawfulTables}
 use Rattle.lawful.specs.Reached.{Reached, load, step}
-use Rattle.lawful.proofs.Truth.{both, and-of}
-use Rattle.lawful.proofs.Pointers.{sound-of, of-sound}
+use Rattle.words.proofs.Truth.{both, and-of}
+use Rattle.meaning.proofs.Pointers.{sound-of, of-sound, nine-queues}
 use Rattle.lawful.proofs.Corollaries.{shape-apart}
 use Rattle.lawful.proofs.FromRules.{rules-lawful}
 use Rattle.lawful.proofs.ToRules.{lawful-rules}
@@ -35,10 +33,6 @@ use Rattle.lawful.proofs.Keeps.{keeps}
 use Rattle.lawful.proofs.Ends.{step-ends, refused-leaves}
 
 -- ---- The test of the rules, and lawful tables.
-
-nine-queues : (t : Threads) → length (t .first) ≡ 9 → length (queuesOf t) ≡ 9
-unfolding queuesOf
-nine-queues t e = length-map (t .first) _ ∙ e
 
 pub rules-tables : (t : Tables) → Typed t → rulesHold t ≡ true → LawfulTables t
 unfolding rulesHold

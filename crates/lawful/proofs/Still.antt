@@ -7,7 +7,8 @@ use Rattle.words.specs.Words.{_among_}
 use Rattle.tables.specs.State.{State, withClock, withOn, taskAt, requestAt}
 use Rattle.meaning.specs.Channel.{channelLevel}
 use Rattle.tables.specs.Blocks.{InLink}
-use Rattle.lawful.specs.Shape.{one, bit, placeOf, Shape, Hand}
+use Rattle.lawful.specs.Shape.{placeOf, Shape, Hand}
+use Rattle.words.specs.Counting.{one, bit}
 use Rattle.lawful.proofs.Change.{stands-same}
 use lib.Dec.{eqb}
 

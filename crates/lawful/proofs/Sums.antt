@@ -6,7 +6,7 @@ use native.Mathlib.Omega.{arith}
 use native.Mathlib.Nat.{le-of-suc-le-suc, not-suc-le-zero}
 use lib.ListN.{length, set, getD}
 use Rattle.tables.specs.declared.Task.{Task}
-use Rattle.lawful.specs.Shape.{sum}
+use Rattle.words.specs.Counting.{sum}
 
 module _ {ℓ} {A : Type ℓ} (f : A → ℕ) where
   pub sum-set : (l : List A) (k : ℕ) (x d : A) → k < length l → sum f (set l k x) + f (getD l k d) ≡ sum f l + f x

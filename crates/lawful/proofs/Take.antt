@@ -8,15 +8,17 @@ use Prim.Native.Nat.{ℕ, _+_, _≤_, _<_}
 use native.Mathlib.Omega.{arith}
 use lib.ListN.{length, getD}
 use Rattle.threads.specs.Threads.{count}
-use Rattle.threads.proofs.Lists.{tested}
+use Rattle.words.proofs.Truth.{tested}
 use Rattle.words.specs.Words.{upBy}
 use Rattle.tables.specs.State.{State, timeQueue, channelQueue, withRunning, withQueues, taskAt, queue}
 use Rattle.tables.specs.Blocks.{Free, Running, InLink}
 use Rattle.meaning.specs.Rules.{queueFor}
-use Rattle.lawful.specs.Shape.{one, Hand, placeOf, Stands, Shape}
+use Rattle.lawful.specs.Shape.{Hand, placeOf, Stands, Shape}
+use Rattle.words.specs.Counting.{one}
 use Rattle.lawful.proofs.Change.{change, past-hand}
 use Rattle.lawful.proofs.Fields.{held-fields}
-use Rattle.lawful.proofs.Shape.{held-place, other-place, one-other}
+use Rattle.lawful.proofs.Shape.{held-place, other-place}
+use Rattle.words.proofs.Counting.{one-other}
 
 module _ (s : State) (k : ℕ) where
   abbrev pub taking : List (List ℕ) → ℕ → State

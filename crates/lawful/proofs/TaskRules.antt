@@ -15,9 +15,9 @@ use Rattle.meaning.specs.Ready.{needsCore}
 use Rattle.meaning.specs.Rules.{blankTask}
 use Rattle.meaning.proofs.Parts.{taskRange, taskClear, task-range, task-in-range, task-clear, clear-task}
 use Rattle.lawful.specs.Shape.{cleared, Fields}
-use Rattle.lawful.proofs.Truth.{both, and-of, implied, of-implied, not-eq, unlike, one-of-three}
+use Rattle.words.proofs.Truth.{both, and-of, implied, of-implied, not-eq, unlike, one-of-three}
 use Rattle.lawful.proofs.Cases.{needs, needs-true}
-use Rattle.lawful.proofs.Blanks.{task-blank, of-task-blank}
+use Rattle.meaning.proofs.Blanks.{task-blank, of-task-blank}
 
 -- "core waiters still need core, and besides them only event and time waiters may", of one block
 abbrev pub neededAt : State → ℕ → Bool

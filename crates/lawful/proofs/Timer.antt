@@ -19,8 +19,8 @@ use Rattle.meaning.specs.Services.{timely, timer, stopped, dispatchCheck}
 use Rattle.meaning.specs.Rules.{queueFor}
 use Rattle.lawful.specs.Shape.{InHand}
 use Rattle.lawful.specs.Resting.{Asleep, Lawful, Settled}
-use Rattle.lawful.proofs.Shape.{one-same}
-use Rattle.lawful.proofs.Queues.{count-cons, count-without, set-queue, set-others}
+use Rattle.words.proofs.Counting.{one-same}
+use Rattle.threads.proofs.Queues.{count-cons, count-without, set-queue, set-others}
 use Rattle.lawful.proofs.Members.{level-best, level-worst, runs-place, runs-stands}
 use Rattle.lawful.proofs.Fields.{plain-fields}
 use Rattle.lawful.proofs.Enter.{hand-stands, hand-count, enter-other}

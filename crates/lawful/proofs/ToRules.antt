@@ -6,7 +6,7 @@ use Prim.Native.Nat.{ℕ, _^_, _≤_}
 use native.Mathlib.Omega.{arith}
 use lib.Dec.{eqb}
 use borrow.Author.Tests.{eq-eqb, eqb-true, le-leb, lt-ltb, ne-eqb}
-use Rattle.threads.proofs.Lists.{tested}
+use Rattle.words.proofs.Truth.{tested, and-of, of-implied}
 use Rattle.words.specs.Words.{_implies_, has}
 use Rattle.tables.specs.Blocks.{Free, InLink, InCheck, Ending}
 use Rattle.tables.specs.State.{State, taskAt, poolAt, levelOf}
@@ -15,12 +15,13 @@ use Rattle.meaning.specs.Finish.{pendingOf, pending}
 use Rattle.meaning.specs.Rules as rules
 use Rattle.meaning.proofs.Rules.{Keeps}
 use Rattle.meaning.proofs.Parts.{taskRange, requestRange, taskStands, requestStands, taskFree, requestFree, taskClear, requestClear, Ranges, in-range, Sets, free-sets, Clears, all-clear}
-use Rattle.lawful.specs.Shape.{one, bit, children, Stands}
+use Rattle.lawful.specs.Shape.{children, Stands}
+use Rattle.words.specs.Counting.{one, bit}
 use Rattle.lawful.specs.Resting.{Lawful}
-use Rattle.lawful.proofs.Shape.{one-other, rest-place}
-use Rattle.lawful.proofs.Truth.{and-of, of-implied}
-use Rattle.lawful.proofs.Tests.{to-all, of-set}
-use Rattle.lawful.proofs.Blanks.{of-task-blank, of-request-blank}
+use Rattle.lawful.proofs.Shape.{rest-place}
+use Rattle.words.proofs.Counting.{one-other}
+use Rattle.threads.proofs.Tests.{to-all, of-set}
+use Rattle.meaning.proofs.Blanks.{of-task-blank, of-request-blank}
 use Rattle.lawful.proofs.PlaceRules.{of-task-placed}
 use Rattle.lawful.proofs.TaskRules.{neededAt, of-range, no-request, of-clear, of-needed}
 use Rattle.lawful.proofs.RequestRules.{ownedAt, of-request-range, of-request-clear, of-carried, of-freeRequests, of-owned}
@@ -28,7 +29,7 @@ use Rattle.lawful.proofs.CoreRules.{of-core, of-links}
 use Rattle.lawful.proofs.Chains.{of-ranked}
 use Rattle.lawful.proofs.RestRules.{of-busy, of-asleep, of-stuck, of-flowing, of-levels, of-passes}
 use Rattle.lawful.proofs.Pendings.{of-pending, some-pending}
-use Rattle.lawful.proofs.Bits.{of-within}
+use Rattle.words.proofs.Bits.{of-within}
 
 has-not : (w : ℕ) → bit w 0 ≡ 0 → not (has w 0) ≡ true
 has-not w e = ap not (ne-eqb (bit w 0) 1 (λ z. omega (arith, e, z)))

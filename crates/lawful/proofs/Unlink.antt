@@ -8,7 +8,7 @@ use native.Mathlib.Omega.{arith}
 use lib.ListN.{set, getD, length-set}
 use lib.Seq.{getD-set-same, getD-set-other}
 use Rattle.threads.specs.Threads.{count}
-use Rattle.threads.proofs.Lists.{tested}
+use Rattle.words.proofs.Truth.{tested}
 use Rattle.words.specs.Words.{_among_}
 use Rattle.image.specs.Directory.{noEntry}
 use Rattle.tables.specs.declared.Task.{Task}
@@ -17,13 +17,14 @@ use Rattle.tables.specs.Blocks.{InLink, noTask, withParent}
 use Rattle.meaning.specs.Conditions.{enough}
 use Rattle.meaning.specs.Rules.{queueFor}
 use Rattle.meaning.specs.Finish.{unlinked}
-use Rattle.lawful.specs.Shape.{one, Hand, placeOf, Stands, holding, children, Shape}
+use Rattle.lawful.specs.Shape.{Hand, placeOf, Stands, holding, children, Shape}
+use Rattle.words.specs.Counting.{one}
 use Rattle.lawful.specs.Resting.{Rest}
 use Rattle.lawful.proofs.Change.{change, core-kept, ranked-kept}
 use Rattle.lawful.proofs.Fields.{lone-fields}
-use Rattle.lawful.proofs.Queues.{up-same}
+use Rattle.threads.proofs.Queues.{up-same}
 use Rattle.lawful.proofs.Sums.{field-kept, sum-set}
-use Rattle.lawful.proofs.Shape.{one-other, one-sym}
+use Rattle.words.proofs.Counting.{one-other, one-sym}
 use Rattle.lawful.proofs.Made.{stuck-same}
 use Rattle.lawful.proofs.Finish.{ends}
 

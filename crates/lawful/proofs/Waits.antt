@@ -9,7 +9,7 @@ use lib.ListN.{length, set, getD}
 use lib.Seq.{getD-set-same, getD-set-other}
 use lib.Bits.{bitAnd}
 use Rattle.threads.specs.Threads.{count}
-use Rattle.threads.proofs.Lists.{tested}
+use Rattle.words.proofs.Truth.{tested}
 use Rattle.words.specs.Words.{insertedBy, size}
 use Rattle.image.specs.Directory.{noEntry}
 use Rattle.tables.specs.State.{State, withTask, eventQueue, timeQueue, channelQueue, coreQueue, taskAt, queue, joining}
@@ -18,9 +18,9 @@ use Rattle.meaning.specs.Conditions.{inTime, enough}
 use Rattle.meaning.specs.Rules.{queueFor}
 use Rattle.lawful.specs.Shape.{Shape, InHand}
 use Rattle.lawful.specs.Resting.{Rest}
-use Rattle.lawful.proofs.Shape.{one-other}
+use Rattle.words.proofs.Counting.{one-other}
 use Rattle.lawful.proofs.Fields.{event-fields, time-fields}
-use Rattle.lawful.proofs.Queues.{set-queue, set-others, up-placed, count-last, count-placed}
+use Rattle.threads.proofs.Queues.{set-queue, set-others, up-placed, count-last, count-placed}
 use Rattle.lawful.proofs.Enter.{hand-stands, hand-count, hand-timed, enter, enter-other}
 use Rattle.lawful.proofs.Resting.{rest-beside}
 use Rattle.lawful.proofs.Made.{stuck-same}

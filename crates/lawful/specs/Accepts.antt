@@ -10,7 +10,7 @@ use Rattle.tables.specs.State.{State, requestAt}
 use Rattle.calls.specs.declared.Call.{Call}
 use Rattle.calls.specs.Calls.{CHECK, TIMER, IO-DONE, known, needsTask}
 use Rattle.meaning.specs.Refusals.{starts, tellsEvents, transfers, waits, clockEnd}
-use Rattle.lawful.specs.Shape.{bit}
+use Rattle.words.specs.Counting.{bit}
 
 -- 13, 14 and 15, of a call with a condition
 pub record Condition (s : State) (c : Call) : Type 0 where

@@ -4,13 +4,14 @@
 use mathlib.Core.Bool.{true, false, cond, _&&_}
 use mathlib.Core.Path.{_≡_}
 use mathlib.Core.Logic.{_≢_}
-use mathlib.Core.List.{List, [], _∷_}
-use Prim.Native.Nat.{ℕ, _+_, _/_, _%_, _^_, _≤_, _<_}
+use mathlib.Core.List.{List, _∷_}
+use Prim.Native.Nat.{ℕ, _+_, _^_, _≤_, _<_}
 use lib.ListN.{length, getD}
 use lib.Bits.{bitAnd}
 use lib.Dec.{eqb}
 use Rattle.threads.specs.Threads.{count}
 use Rattle.words.specs.Words.{_among_, upBy, size}
+use Rattle.words.specs.Counting.{one, bit, sum}
 use Rattle.image.specs.declared.Entry.{Entry}
 use Rattle.image.specs.declared.Directory.{Directory}
 use Rattle.image.specs.Directory.{entryAt}
@@ -22,20 +23,7 @@ use Rattle.pools.specs.Pools.{run}
 use Rattle.meaning.specs.Rules.{directoryPasses, queueFor}
 use Rattle.meaning.specs.Channel.{channelLevel}
 
--- ---- Words. 'Is' is a number, so that places, sets and links are sums of numbers.
-
--- 1 where the two numbers are the same, else 0
-unfoldable pub one : ℕ → ℕ → ℕ
-one a b = cond (eqb a b) 1 0
-
--- bit u of a word
-abbrev pub bit : ℕ → ℕ → ℕ
-bit w u = w / 2 ^ u % 2
-
--- the sum of f over a list
-unfoldable pub sum {ℓ} : {A : Type ℓ} → (A → ℕ) → List A → ℕ
-sum f [] = 0
-sum f (a ∷ l) = f a + sum f l
+-- ---- Words.
 
 -- the module of a task
 abbrev pub moduleOf : Directory → Task → Entry

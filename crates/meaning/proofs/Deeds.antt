@@ -7,7 +7,7 @@ use mathlib.Core.List.{List, [], _∷_, _++_}
 use Prim.Native.Nat.{ℕ}
 use lib.Dec.{eqb}
 use Rattle.words.specs.Words.{_among_}
-use Rattle.threads.proofs.Lists.{tested}
+use Rattle.words.proofs.Truth.{tested}
 use Rattle.tables.specs.State.{State}
 use Rattle.calls.specs.declared.Call.{Call}
 use Rattle.calls.specs.Calls.{services, interrupts, known}

@@ -1,6 +1,7 @@
 pub mod Loaded
-pub mod Named
 pub mod Rules
 pub mod Parts
 pub mod Once
 pub mod Deeds
+pub mod Pointers
+pub mod Blanks

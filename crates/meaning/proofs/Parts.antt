@@ -10,7 +10,7 @@ use Rattle.tables.specs.declared.Request.{Request}
 use Rattle.tables.specs.Blocks.{taskBlocks, requestBlocks, Free, Running, InEvent, InTime, InCheck, Ending, Queued, OnChannel, Done, HoldsRun, GaveBack, NotGranted}
 use Rattle.tables.specs.State.{State, channelQueue, noQueue, node, taskAt, requestAt, poolAt, levelOf, unitsOf}
 use Rattle.meaning.specs.Rules.{everyTask, everyRequest, taskInRange, requestInRange, inRange, queueFor, freeSets, blankTask, blankRequest, clearTask, clearRequest, fieldsClear}
-use Rattle.meaning.proofs.Named.{both}
+use Rattle.words.proofs.Truth.{both}
 
 -- ---- The tests of one block.
 

@@ -5,7 +5,7 @@ use Rattle.words.specs.Words.{allTrue}
 use Rattle.tables.specs.State.{State}
 use Rattle.meaning.specs.Rules as rules
 use Rattle.meaning.specs.Rules.{stateRules}
-use Rattle.meaning.proofs.Named.{Given, by-name, All, _also_, no-more}
+use Rattle.words.proofs.Named.{Given, by-name, All, _also_, no-more}
 
 -- each field is the rule of that name
 pub record Keeps (s : State) : Type 0 where

@@ -1,5 +1,5 @@
 -- Where the walk passes, the pointers are sound: the lists are what it went through.
-use mathlib.Core.Bool.{true, false, true≢false}
+use mathlib.Core.Bool.{true, true≢false}
 use mathlib.Core.Path.{_≡_, refl, sym, ap, ap₂, _∙_}
 use mathlib.Core.Logic.{_≢_, ⊎-elim}
 use mathlib.Core.List.{List, [], _∷_, map}
@@ -13,13 +13,13 @@ use lib.Dec.{eqb, leb}
 use borrow.Author.Tests.{eq-eqb, eqb-true, leb-true}
 use Rattle.threads.specs.declared.Threads.{Threads}
 use Rattle.threads.specs.Threads.{hd, lst, after, before, listOf, counts, row, threaded, Sound}
-use Rattle.threads.proofs.Lists.{tested, count-nil, count-hit, count-past, after-here, after-past, before-here, before-past}
+use Rattle.threads.proofs.Lists.{count-nil, count-hit, count-past, after-here, after-past, before-here, before-past}
+use Rattle.words.proofs.Truth.{tested, both}
 use Rattle.threads.proofs.Rows.{length-row, row-at}
 use Rattle.threads.proofs.Flat.{flat, after-flat, before-flat}
 use Rattle.threads.proofs.Read.{sound}
 use Rattle.words.specs.Words.{oneTo}
-use Rattle.lawful.proofs.Truth.{both}
-use Rattle.lawful.proofs.Tests.{all-of, one-to}
+use Rattle.threads.proofs.Tests.{all-of, one-to}
 use Rattle.pointers.proofs.Passes.{passes}
 use Rattle.pointers.specs.Walked.{clearAt, restClear}
 

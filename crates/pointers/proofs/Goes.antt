@@ -12,15 +12,15 @@ use lib.Seq.{drop-cons, getD-set-same, getD-set-other, append-snoc}
 use borrow.Author.Tests.{eq-eqb}
 use Rattle.threads.specs.declared.Threads.{Threads}
 use Rattle.threads.specs.Threads.{hd, lst, after, before, count, counts, row, threaded, Apart, queueIn, queuesOf, Sound}
-use Rattle.threads.proofs.Lists.{tested, count-nil, count-append, count-hit, count-past, count-one, after-none, before-none, lst-append}
+use Rattle.threads.proofs.Lists.{count-nil, count-append, count-hit, count-past, count-one, after-none, before-none, lst-append}
+use Rattle.words.proofs.Truth.{tested, and-of}
 use Rattle.threads.proofs.Rows.{row-at}
 use Rattle.threads.proofs.Flat.{flat, count-flat, fwd-row, back-row}
 use Rattle.threads.proofs.Laws.{member}
 use Rattle.threads.proofs.Short.{length-once}
 use Rattle.threads.proofs.Read.{first-of, last-of, next-of, prev-of}
 use Rattle.words.specs.Words.{oneTo}
-use Rattle.lawful.proofs.Truth.{and-of}
-use Rattle.lawful.proofs.Tests.{of-all, to-top}
+use Rattle.threads.proofs.Tests.{of-all, to-top}
 use Rattle.pointers.proofs.Found.{unmarked, counts-nil}
 use Rattle.pointers.proofs.Passes.{passes, end-all, end-one, one-block}
 use Rattle.pointers.specs.Walked.{clearAt, restClear}

@@ -1,4 +1,3 @@
-pub mod Tests
 pub mod Passes
 pub mod Found
 pub mod Goes

@@ -13,16 +13,17 @@ use lib.Dec.{eqb}
 use borrow.Author.Tests.{eq-eqb, ne-eqb}
 use Rattle.threads.specs.declared.Threads.{Threads}
 use Rattle.threads.specs.Threads.{hd, count, counts, queueIn, queuesOf, Sound}
-use Rattle.threads.proofs.Lists.{tested, count-nil, count-append, count-hit, count-past, count-one, absent-head}
+use Rattle.threads.proofs.Lists.{count-nil, count-append, count-hit, count-past, count-one, absent-head}
+use Rattle.words.proofs.Truth.{tested}
 use Rattle.threads.proofs.Flat.{flat}
 use Rattle.threads.proofs.Laws.{member}
 use Rattle.threads.proofs.Read.{first-of, next-of}
 use Rattle.words.specs.Words.{if_then_else_, _among_, standing}
 use Rattle.meaning.specs.Rules.{pointersSound}
-use Rattle.lawful.proofs.Pointers.{sound-of}
+use Rattle.meaning.proofs.Pointers.{sound-of, nine-queues}
 use Rattle.pointers.proofs.Found.{Lengths, unmarked}
 use Rattle.pointers.proofs.Goes.{counts-at, counts-take, flat-drop, flat-short}
-use Rattle.pointers.proofs.Decided.{nine-queues, decided}
+use Rattle.pointers.proofs.Decided.{decided}
 use Rattle.pointers.proofs.Passes.{passes, end-all, end-one, one-block}
 use Rattle.pointers.specs.Walked.{restClear, noMarks, marksTold, Walks}
 

@@ -10,7 +10,8 @@ use lib.Dec.{eqb, leb}
 use borrow.Author.Tests.{eq-eqb, ne-eqb, le-leb, lt-leb}
 use Rattle.threads.specs.declared.Threads.{Threads}
 use Rattle.words.specs.Words.{if_then_else_, oneTo, allOf}
-use Rattle.pointers.proofs.Tests.{and-assoc, and-right, gather-next}
+use Rattle.words.proofs.Truth.{and-assoc, and-true}
+use Rattle.words.proofs.OneTo.{gather-next}
 use Rattle.pointers.specs.Walked.{clearAt, restClear}
 
 -- From the block y of the queue q on, p the block before it, m the marks so far, in at most n steps: each block is one of 1 to 40, has no
@@ -27,7 +28,7 @@ passes t (suc n) q p y m =
 module _ (t : Threads) (m : List ℕ) where
   pub rest-start : {r : Bool} → r ≡ clearAt t m 0 → r ≡ (clearAt t m 0 && allOf (clearAt t m) (oneTo 0))
   unfolding allOf oneTo
-  rest-start e = e ∙ sym (and-right (clearAt t m 0))
+  rest-start e = e ∙ sym (and-true (clearAt t m 0))
 
   pub rest-next : (i : ℕ) {b r : Bool} → b ≡ (clearAt t m 0 && allOf (clearAt t m) (oneTo i)) → r ≡ clearAt t m (i + 1)
       → (b && r) ≡ (clearAt t m 0 && allOf (clearAt t m) (oneTo (i + 1)))

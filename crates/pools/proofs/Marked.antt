@@ -8,7 +8,8 @@ use native.Mathlib.Omega.{arith}
 use lib.Dec.{ltb}
 use borrow.Author.Tests.{lt-ltb}
 use Rattle.words.specs.Words.{has}
-use Rattle.words.proofs.Members.{true-or-false, has-rest}
+use Rattle.words.proofs.Members.{has-rest}
+use Rattle.words.proofs.Truth.{true-or-false}
 use Rattle.words.proofs.Masks.{in-run, of-run}
 use Rattle.pools.specs.declared.Found.{Found}
 use Rattle.pools.specs.declared.Found.the-variants.{At, Nowhere}

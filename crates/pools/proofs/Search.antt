@@ -10,7 +10,8 @@ use lib.Count.{trailingZeros}
 use Rattle.words.specs.Words.{has}
 use Rattle.words.proofs.Least.{least-lowest}
 use Rattle.words.proofs.Lowest.{lowest-same}
-use Rattle.words.proofs.Members.{true-or-false, has-meet, has-down, has-rest}
+use Rattle.words.proofs.Members.{has-meet, has-down, has-rest}
+use Rattle.words.proofs.Truth.{true-or-false}
 use Rattle.pools.specs.Pools.{freeAt, startOf}
 use Rattle.pools.proofs.Units.{free-inside, free-shown, free-one, free-joined}
 use Rattle.pools.proofs.Starts.{start-is, start-none}

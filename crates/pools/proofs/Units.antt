@@ -7,8 +7,9 @@ use native.Mathlib.Omega.{arith}
 use lib.Dec.{eqb, leb, ltb}
 use borrow.Author.Tests.{eq-eqb, eqb-true, le-leb, leb-true, lt-ltb, ltb-true, not-true}
 use Rattle.words.specs.Words.{below, allOf, has}
-use Rattle.words.proofs.Lists.{and-left, and-right, all-at, all-shown}
-use Rattle.words.proofs.Members.{same-truth, has-rest}
+use Rattle.words.proofs.Lists.{all-at, all-shown}
+use Rattle.words.proofs.Truth.{and-left, and-right, same-truth}
+use Rattle.words.proofs.Members.{has-rest}
 use Rattle.words.proofs.Masks.{all-ones-has, all-ones-shown}
 use Rattle.words.proofs.Places.{under-or-from}
 use Rattle.pools.specs.Pools.{freeAt}

@@ -8,7 +8,7 @@ use native.Mathlib.Omega.{arith}
 use lib.Dec.{ltb}
 use borrow.Author.Tests.{ltb-true, ne-eqb}
 use Rattle.words.specs.Rows.{Row, _when_, firstOf}
-use Rattle.words.proofs.Lists.{and-left, and-right}
+use Rattle.words.proofs.Truth.{and-left, and-right}
 use Rattle.words.proofs.Rows.{noZero}
 use Rattle.tables.specs.State.{State}
 use Rattle.calls.specs.declared.Call.{Call}

@@ -7,10 +7,9 @@ use Prim.Native.Nat.{ℕ, zero, suc, _+_, _-_, _≤_, _<_}
 use native.Mathlib.Omega.{arith}
 use lib.Dec.{eqb, ltb}
 use borrow.Author.Tests.{eq-eqb, ltb-false, ltb-true}
-use Rattle.threads.proofs.Lists.{tested}
+use Rattle.words.proofs.Truth.{tested, both}
 use Rattle.tables.specs.State.{State, taskAt}
 use Rattle.meaning.specs.Rules.{upward}
-use Rattle.lawful.proofs.Truth.{both}
 
 -- y is n steps above the task k
 pub record Above (s : State) (k n y : ℕ) : Type 0 where

@@ -8,16 +8,15 @@ use native.Mathlib.Omega.{arith}
 use lib.Bits.{bitOr}
 use lib.Dec.{eqb, leb}
 use borrow.Author.Tests.{eq-eqb, ne-eqb, le-leb, lt-leb, leb-true}
-use Rattle.threads.proofs.Lists.{tested}
+use Rattle.words.proofs.Truth.{tested, same-truth, and-true}
 use Rattle.words.specs.Words.{if_then_else_, oneTo, howMany, has, adding}
 use Rattle.words.proofs.Members.{has-none, has-next, has-union}
 use Rattle.words.proofs.Changes.{has-adding}
 use Rattle.words.proofs.Places.{under-or-from}
 use Rattle.tables.specs.State.{State, taskAt}
 use Rattle.meaning.specs.Rules.{linked}
-use Rattle.lawful.proofs.Tests.{all-to, to-all}
+use Rattle.threads.proofs.Tests.{all-to, to-all}
 use Rattle.rules.specs.Links.{Tally, Exact, Waiters, childOf, alone}
-use Rattle.pointers.proofs.Tests.{same-test, and-right}
 use Rattle.fields.proofs.Owners.{eqb-swap}
 use Rattle.rules.proofs.Tally.{met, met-none, tally-end, tally-half}
 
@@ -33,10 +32,10 @@ or-not false false = refl
 one-further : (x : ℕ → Bool) (k u : ℕ) → ((leb u k && x u) || (x (k + 1) && eqb (k + 1) u)) ≡ (leb u (k + 1) && x u)
 one-further x k u =
     ⊎-elim
-    (λ z. rw (← z .1, lt-leb (k + 1) k (omega arith), le-leb (k + 1) (k + 1) (omega arith), eq-eqb (k + 1) (k + 1) refl) (and-right (x (k + 1))))
+    (λ z. rw (← z .1, lt-leb (k + 1) k (omega arith), le-leb (k + 1) (k + 1) (omega arith), eq-eqb (k + 1) (k + 1) refl) (and-true (x (k + 1))))
     (λ z.
     let same =
-    same-test (leb u k) (leb u (k + 1)) (λ e. le-leb u (k + 1) (omega (arith, leb-true u k e)))
+    same-truth (leb u k) (leb u (k + 1)) (λ e. le-leb u (k + 1) (omega (arith, leb-true u k e)))
     (λ e. le-leb u k (omega (arith, leb-true u (k + 1) e, z .1))) in
     rw (z .0) (or-not _ (x (k + 1)) ∙ ap (λ (b : Bool). b && x u) same))
     (tested (k + 1) u)

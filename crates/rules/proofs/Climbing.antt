@@ -16,7 +16,7 @@ use Rattle.threads.proofs.Read.{first-of}
 use Rattle.threads.proofs.Lists.{count-append}
 use Rattle.threads.proofs.Walk.{opened, closed, at-next, at-split, at-member, at-less}
 use Rattle.words.specs.Words.{upBy}
-use Rattle.pointers.proofs.Tests.{and-assoc, and-right}
+use Rattle.words.proofs.Truth.{and-assoc, and-true}
 use Rattle.rules.proofs.Places.{tasks-of, requests-of, owner-low, module-low}
 use Rattle.rules.specs.Orderly.{Orderly}
 use Rattle.tables.specs.declared.Tables.{Tables}
@@ -78,7 +78,7 @@ module _ {t : Threads} (s : Sound t) (key : ℕ → ℕ) (q : ℕ) (h : q < 9) w
         closed (c .rest)
         (λ x k. member (queuesOf t) (s .apart) q h x (omega (arith, ap (count x) (c .split), count-append x (c .front) (c .rest))) .0)
         (sym (c .at) ∙ z) in
-        sym (and-right right) ∙ ap (λ (l : List ℕ). right && upFrom key least l) (sym none) ∙ c .same
+        sym (and-true right) ∙ ap (λ (l : List ℕ). right && upFrom key least l) (sym none) ∙ c .same
 
 -- ---- of orderly tables: what stands at a turn is a task block of the time queue, or a request block of the channel queue
 

@@ -6,11 +6,10 @@ use Rattle.threads.specs.Threads.{Sound}
 use Rattle.tables.specs.declared.Tables.{Tables}
 use Rattle.tables.specs.State.{State, read}
 use Rattle.meaning.specs.Rules.{pointersSound, stateRules, rulesHold}
-use Rattle.meaning.proofs.Named.{Given, by-name, All, _also_, no-more}
+use Rattle.words.proofs.Named.{Given, by-name, All, _also_, no-more}
 use Rattle.meaning.proofs.Rules.{Keeps, all-rules, rules-all}
 use Rattle.fields.specs.Blocks.{firstPass}
-use Rattle.lawful.proofs.Truth.{both, and-of}
-use Rattle.pointers.proofs.Tests.{same-test}
+use Rattle.words.proofs.Truth.{both, and-of, same-truth}
 use Rattle.rules.specs.Orderly.{Orderly, linkTests, queueTests, secondPass}
 use Rattle.rules.proofs.Waiters.{waiters, events-wait, events-pass, their-level}
 use Rattle.rules.proofs.Deciding.{Passed, passed, passes-first}
@@ -96,7 +95,7 @@ module _ (t : Tables) (sound : Sound (t .threads)) where
   kept e = all-rules (both (pointersSound (t .threads)) (allTrue (stateRules s)) e .1)
 
   pub first-fails : false ≡ firstPass s → false ≡ rulesHold t
-  first-fails e = same-test false (rulesHold t) (λ z. absurd (true≢false (sym z))) (λ h. e ∙ all-pass (kept h))
+  first-fails e = same-truth false (rulesHold t) (λ z. absurd (true≢false (sym z))) (λ h. e ∙ all-pass (kept h))
 
   second-holds : rulesHold t ≡ true → secondPass s ≡ true
   unfolding secondPass
@@ -105,7 +104,7 @@ module _ (t : Tables) (sound : Sound (t .threads)) where
   -- the first pass passes: what is left is the second
   pub second-decides : pointersSound (t .threads) ≡ true → firstPass s ≡ true → secondPass s ≡ rulesHold t
   unfolding rulesHold
-  second-decides e f = same-test (secondPass s) (rulesHold t) (λ h. and-of _ _ e (rules-all (pass-all (passed s f) h))) second-holds
+  second-decides e f = same-truth (secondPass s) (rulesHold t) (λ h. and-of _ _ e (rules-all (pass-all (passed s f) h))) second-holds
 
 pub unsound : (t : Tables) → false ≡ pointersSound (t .threads) → false ≡ rulesHold t
 unfolding rulesHold

@@ -8,7 +8,7 @@ use native.Mathlib.Omega.{arith}
 use lib.Bits.{bitAnd}
 use lib.Dec.{eqb}
 use borrow.Author.Tests.{leb-true, le-leb}
-use Rattle.threads.proofs.Lists.{tested}
+use Rattle.words.proofs.Truth.{tested, and-of, both, same-bool}
 use Rattle.words.specs.Words.{_implies_, oneTo, someOf, has}
 use Rattle.tables.specs.Blocks.{Free, InCheck, Ending}
 use Rattle.tables.specs.State.{State, taskAt, requestAt}
@@ -17,13 +17,12 @@ use Rattle.meaning.specs.Ready.{needsCore}
 use Rattle.meaning.specs.Finish.{pendingOf, pending}
 use Rattle.meaning.specs.Rules as rules
 use Rattle.meaning.specs.Rules.{blankTask}
-use Rattle.meaning.proofs.Named.{Given, by-name, All, _also_, no-more}
+use Rattle.words.proofs.Named.{Given, by-name, All, _also_, no-more}
 use Rattle.meaning.proofs.Rules.{Keeps}
 use Rattle.meaning.proofs.Parts.{taskRange, requestRange, taskStands, requestStands, taskFree, requestFree, taskClear, requestClear, ranges, in-range, sets, free-sets, clears, all-clear, request-range}
 use Rattle.fields.specs.Blocks.{waiterRight, pends, usedBy, taskPasses, requestPasses, firstTests, firstPass}
-use Rattle.lawful.proofs.Truth.{and-of, both, same-bool}
-use Rattle.lawful.proofs.Tests.{all-to, to-all}
-use Rattle.lawful.proofs.Blanks.{task-blank}
+use Rattle.threads.proofs.Tests.{all-to, to-all}
+use Rattle.meaning.proofs.Blanks.{task-blank}
 use Rattle.lawful.proofs.TaskRules.{neededAt}
 use Rattle.lawful.proofs.RequestRules.{ownedAt}
 use Rattle.rules.proofs.Waiters.{twice}

@@ -9,7 +9,7 @@ use Rattle.words.proofs.Rows.{row-passed}
 use Rattle.image.specs.declared.Directory.{Directory}
 use Rattle.image.specs.Directory.{modulesGood, directoryRows}
 use Rattle.meaning.specs.Rules.{directoryPasses}
-use Rattle.lawful.proofs.Truth.{both}
+use Rattle.words.proofs.Truth.{both}
 
 pub some-module : (d : Directory) → directoryPasses d ≡ true → 1 ≤ d .modules
 unfolding directoryPasses directoryRows

@@ -7,7 +7,7 @@ use native.Mathlib.Omega.{arith}
 use lib.Dec.{eqb, leb, ltb}
 use borrow.Author.Tests.{eq-eqb, eqb-true, leb-true, ltb-true}
 use Rattle.threads.specs.Threads.{count}
-use Rattle.threads.proofs.Lists.{tested}
+use Rattle.words.proofs.Truth.{tested, both, implied, not-eq}
 use Rattle.threads.proofs.Laws.{member}
 use Rattle.words.specs.Words.{standing}
 use Rattle.words.proofs.Places.{under-or-from}
@@ -17,9 +17,8 @@ use Rattle.tables.specs.Blocks.{Free, HoldsRun, noTask}
 use Rattle.tables.specs.State.{State, node, taskAt, requestAt, queue, levelOf, unitsOf, read}
 use Rattle.meaning.specs.Rules.{queueFor, blankTask, tasksInPlace, requestsInPlace}
 use Rattle.meaning.proofs.Parts.{taskRange, requestRange, taskStands, requestStands, taskClear, ranges, clears, TaskRange, task-range, task-clear, request-range}
-use Rattle.lawful.proofs.Truth.{both, implied, not-eq}
-use Rattle.lawful.proofs.Tests.{all-to}
-use Rattle.lawful.proofs.Blanks.{task-blank}
+use Rattle.threads.proofs.Tests.{all-to}
+use Rattle.meaning.proofs.Blanks.{task-blank}
 use Rattle.lawful.proofs.Directory.{passing}
 use Rattle.lawful.proofs.Members.{by-queue}
 use Rattle.lawful.proofs.PlaceRules.{channel-others, request-placed}

@@ -10,7 +10,7 @@ use lib.Dec.{eqb, leb}
 use lib.ListN.{set, getD, replicate, length-set, getD-replicate}
 use lib.Seq.{getD-set-same, getD-set-other}
 use borrow.Author.Tests.{eq-eqb, ne-eqb, le-ltb}
-use Rattle.threads.proofs.Lists.{tested}
+use Rattle.words.proofs.Truth.{tested, fails-right}
 use Rattle.words.specs.Words.{below, oneTo, allOf, has}
 use Rattle.words.proofs.Masks.{has-run}
 use Rattle.words.proofs.Members.{has-above}
@@ -22,7 +22,6 @@ use Rattle.tables.specs.State.{State, taskAt, poolAt, levelOf, unitsOf, read}
 use Rattle.meaning.specs.Rules.{holdsUnit, coreHeld}
 use Rattle.rules.specs.Orderly.{Orderly}
 use Rattle.rules.specs.Links.{Tally, Exact, Counted}
-use Rattle.pointers.proofs.Tests.{fails-right}
 use Rattle.rules.proofs.Firsts.{three}
 use Rattle.rules.proofs.Places.{run-fits, level-fits}
 use Rattle.rules.proofs.Tally.{met, met-none, tally-start, tally-next, tally-past, tally-end}

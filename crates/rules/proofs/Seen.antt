@@ -11,7 +11,7 @@ use Rattle.tables.specs.State.{State, taskAt, poolAt, read}
 use Rattle.meaning.specs.Rules.{upward, coreHeld, chainsEnd, linked}
 use Rattle.rules.specs.Orderly.{Orderly}
 use Rattle.rules.specs.Links.{Exact, Counted, Seen, WithChild, alone}
-use Rattle.pointers.proofs.Tests.{gather-start, gather-next}
+use Rattle.words.proofs.OneTo.{gather-start, gather-next}
 use Rattle.rules.proofs.Places.{parent-low}
 use Rattle.rules.proofs.Tally.{tally-start, tally-next}
 use Rattle.rules.proofs.Children.{parent-has, waiters-start, waiters-next, linked-end}

@@ -1,7 +1,7 @@
 -- Counting into two sets: `one` has what was met at least once, `two` what was met at least twice. So children are counted, and core units.
 use mathlib.Core.Bool.{Bool, true, false, not, _&&_, _||_, Bool·beq}
 use mathlib.Core.Path.{_≡_, refl, sym, ap, ap₂, _∙_}
-use mathlib.Core.List.{List, [], _∷_, _++_}
+use mathlib.Core.List.{[], _∷_}
 use Prim.Native.Nat.{ℕ, zero, suc, _+_, _/_, _≤_}
 use native.Mathlib.Numerals.{add-one}
 use native.Mathlib.Omega.{arith}
@@ -10,17 +10,12 @@ use lib.Dec.{eqb, leb}
 use borrow.Author.Tests.{eq-eqb, ne-eqb, eqb-true, le-leb, not-true}
 use Rattle.words.specs.Words.{if_then_else_, oneTo, howMany, has}
 use Rattle.words.proofs.Members.{has-none, has-next, has-meet, has-union}
+use Rattle.words.proofs.Ones.{many-append}
 use Rattle.words.proofs.Subsets.{same-members}
-use Rattle.lawful.proofs.Truth.{and-of, both, same-bool, of-same}
-use Rattle.pointers.proofs.Tests.{same-test, fails-right}
+use Rattle.words.proofs.Truth.{and-of, both, same-bool, of-same, same-truth, fails-right}
 use Rattle.rules.specs.Links.{Tally}
 
 -- ---- how many
-
-many-append : (p : ℕ → Bool) (l m : List ℕ) → howMany p (l ++ m) ≡ howMany p l + howMany p m
-unfolding howMany
-many-append p [] m = omega arith
-many-append p (a ∷ l) m = omega (arith, many-append p l m)
 
 many-next : (p : ℕ → Bool) (k : ℕ) → howMany p (oneTo (k + 1)) ≡ howMany p (oneTo k) + (if p (k + 1) then 1 else 0)
 unfolding oneTo howMany
@@ -108,7 +103,7 @@ module _ {p : ℕ → ℕ → Bool} {n one two : ℕ} (wanted : ℕ) (t : Tally 
   pub tally-end : {r : Bool} → (r ≡ true → (u : ℕ) → met p n wanted u ≡ true) → (((u : ℕ) → met p n wanted u ≡ true) → r ≡ true)
       → (eqb two 0 && eqb one wanted) ≡ r
   tally-end {r} f g =
-      same-test (eqb two 0 && eqb one wanted) r
+      same-truth (eqb two 0 && eqb one wanted) r
       (λ e.
       let b = both (eqb two 0) (eqb one wanted) e in
       let x : two ≡ 0 = eqb-true two 0 (b .0) in

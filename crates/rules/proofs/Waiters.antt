@@ -8,7 +8,7 @@ use native.Mathlib.Omega.{arith}
 use lib.Bits.{bitAnd}
 use lib.Dec.{eqb, leb}
 use borrow.Author.Tests.{eq-eqb}
-use Rattle.threads.proofs.Lists.{tested}
+use Rattle.words.proofs.Truth.{tested, and-of, both, implied}
 use Rattle.words.specs.Words.{_implies_, allOf, standing, size}
 use Rattle.tables.specs.declared.Tables.{Tables}
 use Rattle.tables.specs.Blocks.{InEvent}
@@ -17,10 +17,9 @@ use Rattle.meaning.specs.Conditions.{undefinedIn, enough}
 use Rattle.meaning.specs.Rules.{queueFor, eventsWait, eventsPass, ofTheirLevel}
 use Rattle.fields.specs.Blocks.{waiterRight}
 use Rattle.rules.specs.Orderly.{Orderly}
-use Rattle.lawful.proofs.Truth.{and-of, both, implied}
-use Rattle.lawful.proofs.Tests.{of-all, all-of, to-all}
+use Rattle.threads.proofs.Tests.{of-all, all-of, to-all}
 use Rattle.lawful.proofs.Members.{by-queue}
-use Rattle.pointers.proofs.Tests.{all-append}
+use Rattle.words.proofs.Lists.{all-append}
 use Rattle.pointers.proofs.Marks.{stands-here}
 use Rattle.rules.proofs.Places.{stands, in-queue, tasks-of, level-fits}
 

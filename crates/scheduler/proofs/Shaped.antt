@@ -16,10 +16,11 @@ use Rattle.pools.proofs.Units.{held-shown}
 use Rattle.tables.specs.Blocks.{Free, HoldsRun, noTask}
 use Rattle.tables.specs.State.{State, coreQueue, taskAt, poolAt, levelOf, unitsOf, read}
 use Rattle.tables.specs.Held.{Fit, Held, Loose}
-use Rattle.lawful.specs.Shape.{bit, holding, placeOf, Shape, InHand}
+use Rattle.lawful.specs.Shape.{holding, placeOf, Shape, InHand}
+use Rattle.words.specs.Counting.{bit}
 use Rattle.lawful.proofs.Sums.{sum-le}
-use Rattle.lawful.proofs.Queues.{counts-none}
-use Rattle.lawful.proofs.Bits.{bit-le}
+use Rattle.threads.proofs.Queues.{counts-none}
+use Rattle.words.proofs.Bits.{bit-le}
 use Rattle.lawful.proofs.Cored.{holding-own, used-holder}
 use Rattle.lawful.proofs.Enter.{hand-stands, hand-count}
 use Rattle.lawful.proofs.Members.{level-best, level-worst, member-some, member-low, member-stands, member-used, member-core, channel-high}

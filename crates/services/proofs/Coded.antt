@@ -18,7 +18,7 @@ use Rattle.meaning.specs.Given.{Gives}
 use Rattle.meaning.specs.Services.{deeds, deedOf, effect}
 use Rattle.meaning.proofs.Deeds.{codesOf, deed-at, unknown}
 use Rattle.channel.specs.Transfer.{Transferring}
-use Rattle.lawful.specs.Shape.{bit}
+use Rattle.words.specs.Counting.{bit}
 use Rattle.lawful.specs.Resting.{Lawful}
 use Rattle.lawful.specs.Accepts.{Condition, Accepts}
 use Rattle.lawful.specs.Tables.{LawfulTables}

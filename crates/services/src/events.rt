@@ -5,7 +5,7 @@ ghost use Prim.Native.Nat.{_≤_};
 ghost use Rattle.tables.specs.State.{read};
 ghost use Rattle.tables.specs.Held.{Shows};
 ghost use Rattle.meaning.specs.Services.{signal, testEvent, wait};
-ghost use Rattle.lawful.specs.Shape.{bit};
+ghost use Rattle.words.specs.Counting.{bit};
 ghost use Rattle.lawful.specs.Accepts.{Condition};
 ghost use Rattle.lawful.specs.Tables.{LawfulTables};
 use calls::Call;

@@ -6,7 +6,7 @@ use mathlib.Core.Logic.{_≢_, ⊎-elim}
 use mathlib.Core.List.{[]}
 use Prim.Native.Nat.{ℕ, _^_, _<_}
 use native.Mathlib.Omega.{arith}
-use Rattle.threads.proofs.Lists.{tested}
+use Rattle.words.proofs.Truth.{tested}
 use Rattle.words.specs.Words.{least}
 use Rattle.tables.specs.declared.Tables.{Tables}
 use Rattle.tables.specs.Blocks.{InLink}
@@ -16,7 +16,7 @@ use Rattle.calls.specs.declared.Call.{Call}
 use Rattle.meaning.specs.Conditions.{holds, dueOf}
 use Rattle.meaning.specs.Services.{created, stopped}
 use Rattle.lawful.specs.Accepts.{Condition}
-use Rattle.lawful.proofs.Free.{least-low}
+use Rattle.words.proofs.Free.{least-low}
 use Rattle.lawful.proofs.Calls.{new, new-apart}
 use Rattle.lawful.proofs.Link.{linked}
 use Rattle.scheduler.proofs.Shaped.{hand-loose}

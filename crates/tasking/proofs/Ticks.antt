@@ -4,7 +4,8 @@ use mathlib.Core.List.{[]}
 use Prim.Native.Nat.{ℕ}
 use Rattle.words.specs.Words.{adding}
 use Rattle.tables.specs.State.{State, withClock, withOn}
-use Rattle.lawful.specs.Shape.{bit, Shape}
+use Rattle.lawful.specs.Shape.{Shape}
+use Rattle.words.specs.Counting.{bit}
 use Rattle.lawful.proofs.Still.{shape-on}
 use Rattle.lawful.proofs.Signal.{added-le}
 

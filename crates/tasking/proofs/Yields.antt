@@ -11,7 +11,7 @@ use Rattle.tables.specs.Held.{Shows}
 use Rattle.meaning.specs.Services.{stopped}
 use Rattle.lawful.specs.Tables.{LawfulTables}
 use Rattle.lawful.proofs.Members.{runs-stands, runs-place}
-use Rattle.lawful.proofs.Queues.{counts-none}
+use Rattle.threads.proofs.Queues.{counts-none}
 use Rattle.lawful.proofs.Enter.{hand-count}
 use Rattle.lawful.proofs.Timer.{caller, worst}
 

@@ -11,7 +11,7 @@ use lib.ListN.{length, getD, drop, length-drop}
 use lib.Seq.{drop-cons}
 use borrow.Author.Tests.{leb-true, leb-false, ltb-true, le-leb, lt-leb}
 use Rattle.words.specs.Words.{if_then_else_, allOf}
-use Rattle.words.proofs.Lists.{and-left}
+use Rattle.words.proofs.Truth.{and-left}
 use Rattle.text.specs.Decimals.{isDigit, allDigits, valueFrom, valueOf, atMost, numberOf}
 use Rattle.text.specs.declared.decimals.Number.the-variants.{Value, Large, Other}
 

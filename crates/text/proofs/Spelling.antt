@@ -12,7 +12,7 @@ use lib.Dec.{eqb, leb, ltb, lit<, lit≤}
 use lib.ListN.{length, getD}
 use borrow.Author.Tests.{leb-true, leb-false, ltb-true, ltb-false, lt-ltb, le-ltb, le-leb, eqb-true, eqb-false, ne-eqb}
 use Rattle.words.specs.Words.{allOf}
-use Rattle.words.proofs.Lists.{and-left, and-right}
+use Rattle.words.proofs.Truth.{and-left, and-right}
 use Rattle.io.specs.Digits.{glyph, digits, Fewest}
 use Rattle.text.specs.Decimals.{isDigit, allDigits, valueFrom, valueOf, atMost, numberOf, spellingBy, spelling, plain}
 use Rattle.text.proofs.Digits.{empty}

@@ -9,9 +9,9 @@ use native.Mathlib.Omega.{arith}
 use native.Mathlib.Nat.{le-of-suc-le-suc, not-suc-le-zero}
 use lib.ListN.{length, set, take, drop}
 use Rattle.words.specs.Words.{_among_}
-use Rattle.words.proofs.Members.{true-or-false}
+use Rattle.words.proofs.Truth.{true-or-false, tested}
 use Rattle.threads.specs.Threads.{hd, lst, after, before, listOf, count, counts, row, threaded}
-use Rattle.threads.proofs.Lists.{tested, count-append, count-past, after-past, before-past, lst-append}
+use Rattle.threads.proofs.Lists.{count-append, count-past, after-past, before-past, lst-append}
 use Rattle.threads.proofs.Rows.{row-same}
 
 unfoldable pub flat : List (List ℕ) → List ℕ

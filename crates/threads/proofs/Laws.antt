@@ -7,7 +7,8 @@ use native.Mathlib.Omega.{arith}
 use lib.ListN.{length, set, getD, length-set}
 use lib.Seq.{set-set, set-getD, getD-set-same, append-snoc}
 use Rattle.threads.specs.Threads.{QUEUES, BLOCKS, hd, lst, count, counts, Apart, queueIn, without, insertBefore}
-use Rattle.threads.proofs.Lists.{tested, count-nil, count-hit, count-one, count-append, count-mid, counts-set, count-counts, last-in, without-at, insert-at}
+use Rattle.threads.proofs.Lists.{count-nil, count-hit, count-one, count-append, count-mid, counts-set, count-counts, last-in, without-at, insert-at}
+use Rattle.words.proofs.Truth.{tested}
 use Rattle.threads.proofs.Short.{length-once}
 
 -- ---- Lists of blocks.

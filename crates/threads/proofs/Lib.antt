@@ -12,3 +12,6 @@ pub mod Places
 pub mod Moves
 pub mod Entering
 pub mod Unique
+pub mod Queues
+pub mod Tests
+pub mod Standing

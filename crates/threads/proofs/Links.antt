@@ -4,13 +4,14 @@ use mathlib.Core.Bool.{cond}
 use mathlib.Core.Path.{_≡_, sym, ap, _∙_}
 use mathlib.Core.Logic.{_≢_, ⊎-elim}
 use mathlib.Core.List.{List, [], _∷_, _++_}
-use Prim.Native.Nat.{ℕ, _+_, _≤_}
+use Prim.Native.Nat.{ℕ, _≤_}
 use native.Mathlib.Omega.{arith}
 use native.Mathlib.Nat.{not-suc-le-zero}
 use lib.Seq.{append-snoc}
 use lib.Dec.{eqb}
 use Rattle.threads.specs.Threads.{hd, lst, after, before, count}
-use Rattle.threads.proofs.Lists.{tested, count-append, count-hit, count-past, count-one, absent-head, after-here, after-past, after-none, before-here, before-past, before-none, first-in, last-in, lst-append}
+use Rattle.threads.proofs.Lists.{count-append, count-hit, count-past, count-one, absent-head, after-here, after-past, after-none, before-here, before-past, before-none, first-in, last-in, lst-append}
+use Rattle.words.proofs.Truth.{tested}
 
 -- ---- At a number that stands first behind P.
 

@@ -1,24 +1,15 @@
 -- Laws of the functions on lists, clause by clause. `count` stands for 'is in' and for 'once', so that `omega` closes what is asked of members.
-use mathlib.Core.Bool.{Bool, true, false}
 use mathlib.Core.Path.{_≡_, refl, sym, ap, _∙_}
-use mathlib.Core.Logic.{_≢_, _⊎_, inl, inr, ⊎-elim}
+use mathlib.Core.Logic.{_≢_, ⊎-elim}
 use mathlib.Core.List.{List, [], _∷_, _++_}
 use Prim.Native.Nat.{ℕ, zero, suc, _+_, _≤_, _<_}
 use native.Mathlib.Omega.{arith}
 use native.Mathlib.Nat.{le-of-suc-le-suc, not-suc-le-zero}
 use lib.ListN.{length, set, getD}
 use lib.Seq.{set-getD}
-use lib.Dec.{eqb}
-use borrow.Author.Tests.{eq-eqb, ne-eqb, eqb-true, eqb-false}
+use borrow.Author.Tests.{eq-eqb, ne-eqb}
+use Rattle.words.proofs.Truth.{tested}
 use Rattle.threads.specs.Threads.{hd, lst, after, before, count, counts, without, insertBefore}
-
--- a test of two numbers, with what it tells
-pub tested : (a y : ℕ) → ((eqb a y ≡ true) × (a ≡ y)) ⊎ ((eqb a y ≡ false) × (a ≢ y))
-tested a y = go (eqb a y) refl
-  where
-    go : (b : Bool) → eqb a y ≡ b → ((eqb a y ≡ true) × (a ≡ y)) ⊎ ((eqb a y ≡ false) × (a ≢ y))
-    go true e = inl (e, eqb-true a y e)
-    go false e = inr (e, eqb-false a y e)
 
 -- ---- How often a number stands in a list.
 

@@ -11,7 +11,7 @@ use lib.Seq.{ext-getD, getD-set-same, getD-set-other}
 use borrow.Author.Tests.{ne-eqb}
 use Rattle.threads.specs.Threads.{BLOCKS, tab, row}
 use Rattle.threads.specs.Joints.{put}
-use Rattle.threads.proofs.Lists.{tested}
+use Rattle.words.proofs.Truth.{tested}
 
 length-tab : (n : ℕ) (f : ℕ → ℕ) → length (tab n f) ≡ n
 unfolding tab

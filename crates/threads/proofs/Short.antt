@@ -7,7 +7,8 @@ use native.Mathlib.Omega.{arith}
 use native.Mathlib.Nat.{not-suc-le-zero, eq-zero-or-pos}
 use lib.ListN.{length, length-append}
 use Rattle.threads.specs.Threads.{count}
-use Rattle.threads.proofs.Lists.{tested, count-hit, count-mid, split}
+use Rattle.threads.proofs.Lists.{count-hit, count-mid, split}
+use Rattle.words.proofs.Truth.{tested}
 
 pub length-once : (n : ℕ) (l : List ℕ) → ((y : ℕ) → count y l ≤ 1) → ((y : ℕ) → 1 ≤ count y l → y < n) → length l ≤ n
 length-once zero [] once low = omega arith

@@ -8,7 +8,8 @@ use native.Mathlib.Omega.{arith}
 use lib.ListN.{length, getD}
 use lib.Dec.{leb}
 use Rattle.threads.specs.Threads.{hd, count, without, walk, Sound}
-use Rattle.threads.proofs.Lists.{tested, count-append, count-hit, without-at}
+use Rattle.threads.proofs.Lists.{count-append, count-hit, without-at}
+use Rattle.words.proofs.Truth.{tested}
 use Rattle.words.specs.Words.{if_then_else_, each}
 use Rattle.tables.specs.declared.Tables.{Tables}
 use Rattle.tables.specs.State.{State, eventQueue, timeQueue, taskAt, queue, leaving, read}
@@ -18,7 +19,7 @@ use Rattle.meaning.specs.Conditions.{enough}
 use Rattle.meaning.specs.Ready.{madeReady}
 use Rattle.meaning.specs.Services.{woken, timely}
 use Rattle.lawful.specs.Shape.{Shape}
-use Rattle.lawful.proofs.Queues.{set-queue}
+use Rattle.threads.proofs.Queues.{set-queue}
 use Rattle.lawful.proofs.Members.{member-once}
 use Rattle.lawful.proofs.Leave.{leave}
 use Rattle.lawful.proofs.Made.{Frame, made-ready}

@@ -1,5 +1,5 @@
 -- The first pass is its parts, as the functions that it calls give them.
-use Rattle.meaning.proofs.Named.{joined, chain, chain-all}
+use Rattle.words.proofs.Named.{joined, chain, chain-all}
 use Rattle.tables.specs.State.{read}
 use Rattle.fields.proofs.Gathered.{requests-marked}
 use mathlib.Core.Path.{_∙_}

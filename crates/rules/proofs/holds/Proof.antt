@@ -1,7 +1,7 @@
 -- The walk and the two passes are the table rules: what is shown before each answer makes it so (Decides).
 use mathlib.Core.Path.{_∙_}
 use Rattle.rules.proofs.Decides.{unsound, orderly, first-fails, second-decides}
-use Rattle.pointers.proofs.Tests.{refused, passed}
+use Rattle.words.proofs.Truth.{refused, passed}
 use borrow.Author.Needs.{needs}
 use Rattle.rules.proofs.holds.Statement.{statement}
 use Rattle.rules.proofs.holds.Tie as tie

@@ -1,7 +1,7 @@
 -- The second pass is its rules, as the two functions that it calls give them.
 use borrow.Author.Needs.{needs}
 use Rattle.tables.specs.State.{read}
-use Rattle.meaning.proofs.Named.{joined, chain, chain-all}
+use Rattle.words.proofs.Named.{joined, chain, chain-all}
 use Rattle.rules.specs.Orderly.{linkTests, queueTests, secondPass}
 use mathlib.Core.Bool.{Bool, _&&_}
 use mathlib.Core.Path.{ap₂, _∙_}

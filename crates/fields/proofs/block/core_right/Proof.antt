@@ -1,7 +1,7 @@
 -- The core of a task block, by whether it holds a run.
 use borrow.Author.Needs.{needs}
 use borrow.Author.Tests.{ne-eqb}
-use Rattle.pointers.proofs.Tests.{and-right, or-none}
+use Rattle.words.proofs.Truth.{and-true, or-none}
 use Rattle.fields.proofs.block.core_right.Statement.{statement}
 use Rattle.fields.proofs.block.core_right.Tie as tie
 
@@ -12,7 +12,7 @@ add-result : tie.Need-add-result
 add-result c = search needs
 
 returns : tie.Need-returns
-returns c = rw (c .before .if1 .taken) (simp (or-none, and-right))
+returns c = rw (c .before .if1 .taken) (simp (or-none, and-true))
 
 returns-2 : tie.Need-returns-2
 returns-2 c = rw (ne-eqb _ 1 (c .before .before .if1 .left))

@@ -2,7 +2,7 @@
 -- ones among them.
 use mathlib.Core.Path.{_≡_, refl, ap, _∙_}
 use borrow.Author.Needs.{needs}
-use Rattle.pointers.proofs.Tests.{gather-start, gather-next, gather-end, some-start, some-next}
+use Rattle.words.proofs.OneTo.{gather-start, gather-next, gather-end, some-start, some-next}
 use Rattle.fields.specs.Blocks.{pends, requestMarked}
 use Rattle.tables.specs.Blocks.{noRequest}
 use Rattle.words.proofs.Members.{has-none}

@@ -2,9 +2,9 @@
 use Rattle.fields.proofs.Gathered.{free-turn, used-turn}
 use borrow.Author.Needs.{needs}
 use borrow.Author.Tests.{ltb-true}
-use Rattle.lawful.proofs.Truth.{both}
+use Rattle.words.proofs.Truth.{both}
 use Rattle.fields.proofs.Slots.{no-entry, asked, not-asked}
-use Rattle.pointers.proofs.Tests.{gather-start, gather-next, gather-end}
+use Rattle.words.proofs.OneTo.{gather-start, gather-next, gather-end}
 use Rattle.fields.specs.Blocks.{pends, taskPasses}
 use Rattle.tables.specs.State.{read, taskAt, requestAt, entryFor}
 use Rattle.words.specs.Words.{_implies_, oneTo, allOf}

@@ -3,7 +3,7 @@
 use borrow.Author.Needs.{needs}
 use Rattle.rules.proofs.Climbing.{Climbing, climbing-start, climbing-less, climbing-next, climbing-end, time-low, channel-low, asker-low, asker-module}
 use Rattle.rules.proofs.Firsts.{firstWaits, waiter-low, waiter-module, first-turn, busy-told, channel-told}
-use Rattle.pointers.proofs.Tests.{gather-start, gather-next, gather-end}
+use Rattle.words.proofs.OneTo.{gather-start, gather-next, gather-end}
 use Rattle.meaning.specs.Channel.{channelLevel}
 use Rattle.meaning.specs.Rules.{idleOnlyIfNoneReady, channelBusy, coreWaits, queuesInOrder}
 use Rattle.tables.specs.State.{State, timeQueue, channelQueue, taskAt, queue, read}

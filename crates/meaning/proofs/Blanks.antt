@@ -5,8 +5,8 @@ use borrow.Author.Tests.{eqb-true}
 use Rattle.tables.specs.declared.Task.{Task}
 use Rattle.tables.specs.declared.Request.{Request}
 use Rattle.tables.specs.Blocks.{noTask, noRequest}
 use Rattle.meaning.specs.Rules.{blankTask, blankRequest}
-use Rattle.lawful.proofs.Truth.{both}
+use Rattle.words.proofs.Truth.{both}
 
 pub task-blank : (t : Task) → blankTask t ≡ true → t ≡ noTask
 task-blank t e =

@@ -9,12 +9,12 @@ use lib.ListN.{length, set, getD, length-set}
 use lib.Seq.{getD-set-same, getD-set-other}
 use lib.Dec.{leb, ltb}
 use borrow.Author.Tests.{leb-true, le-leb, ltb-true, ltb-false}
 use Rattle.threads.specs.Threads.{count, counts, without}
-use Rattle.threads.proofs.Lists.{tested, count-nil, count-append, count-hit, count-past}
+use Rattle.threads.proofs.Lists.{count-nil, count-append, count-hit, count-past}
+use Rattle.words.proofs.Truth.{tested, both}
 use Rattle.words.specs.Words.{upBy, insertedBy}
-use Rattle.lawful.specs.Shape.{one}
-use Rattle.lawful.proofs.Truth.{both}
-use Rattle.lawful.proofs.Shape.{one-same, one-or}
+use Rattle.words.specs.Counting.{one}
+use Rattle.words.proofs.Counting.{one-same, one-or}
 
 -- how often y stands in k alone, behind k, before k
 pub count-cons : (k y : ℕ) (l : List ℕ) → count y (k ∷ l) ≡ one k y + count y l

@@ -1,13 +1,10 @@
 -- Lists of tests, by name: where all of a list hold, each is given in turn to a function that names them; where each is shown, `also` puts them together.
 -- A test more is a name more, and nothing shifts.
-use mathlib.Core.Bool.{Bool, true, false, _&&_}
-use mathlib.Core.Path.{_≡_, refl, _∙_}
+use mathlib.Core.Bool.{Bool, true, _&&_}
+use mathlib.Core.Path.{_≡_, refl, sym, _∙_}
 use mathlib.Core.List.{List, [], _∷_}
 use Rattle.words.specs.Words.{allTrue}
-use Rattle.words.proofs.Lists.{and-left, and-right}
-
-pub both : (a b : Bool) → (a && b) ≡ true → (a ≡ true) × (b ≡ true)
-both a b e = (and-left a b e, and-right a b e)
+use Rattle.words.proofs.Truth.{both, and-true, and-assoc}
 
 -- a function to C of the tests of a list, each as one that holds
 unfoldable pub Given : List Bool → Type 0 → Type 0
@@ -41,18 +38,10 @@ unfoldable pub chain : List Bool → Bool
 chain [] = true
 chain (a ∷ l) = joined a l
 
-and-true : (a : Bool) → a ≡ (a && true)
-and-true true = refl
-and-true false = refl
-
-and-assoc : (a b c : Bool) → (a && b && c) ≡ (a && (b && c))
-and-assoc true b c = refl
-and-assoc false b c = refl
-
 joined-all : (a : Bool) (l : List Bool) → joined a l ≡ allTrue (a ∷ l)
 unfolding joined allTrue
-joined-all a [] = and-true a
-joined-all a (b ∷ l) = joined-all (a && b) l ∙ and-assoc a b (allTrue l)
+joined-all a [] = sym (and-true a)
+joined-all a (b ∷ l) = joined-all (a && b) l ∙ sym (and-assoc a b (allTrue l))
 
 pub chain-all : (l : List Bool) → chain l ≡ allTrue l
 unfolding chain allTrue

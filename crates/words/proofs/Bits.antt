@@ -7,13 +7,13 @@ use Prim.Native.Nat.{ℕ, _+_, _-_, _^_, _≤_, _<_}
 use native.Mathlib.Omega.{arith}
 use lib.Bits.{bitAnd}
 use borrow.Author.Tests.{eq-eqb, eqb-true, eqb-false}
 use Rattle.words.specs.Words.{has, size}
-use Rattle.words.proofs.Lists.{and-left, and-right}
-use Rattle.words.proofs.Members.{true-or-false, has-none, has-above, has-meet}
+use Rattle.words.proofs.Truth.{and-left, and-right, true-or-false}
+use Rattle.words.proofs.Members.{has-none, has-above, has-meet}
 use Rattle.words.proofs.Subsets.{own-width, inside-has, inside-shown, apart-has}
 use Rattle.words.proofs.Changes.{has-plus, has-minus}
 use Rattle.words.proofs.Ones.{ones-inside}
-use Rattle.lawful.specs.Shape.{bit}
+use Rattle.words.specs.Counting.{bit}
 
 pub bit-le : (w u : ℕ) → bit w u ≤ 1
 bit-le w u = omega arith

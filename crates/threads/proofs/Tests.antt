@@ -8,14 +8,14 @@ use Prim.Native.Nat.{ℕ, zero, suc, _≤_}
 use native.Mathlib.Omega.{arith}
 use lib.Dec.{eqb}
 use borrow.Author.Tests.{eqb-true, eq-eqb, ne-eqb}
 use Rattle.threads.specs.Threads.{hd, count}
-use Rattle.threads.proofs.Lists.{tested, count-nil, count-append, count-hit, count-past}
+use Rattle.threads.proofs.Lists.{count-nil, count-append, count-hit, count-past}
+use Rattle.words.proofs.Truth.{tested, both, and-of, same-bool, of-same}
 use Rattle.words.specs.Words.{isEmpty, _among_, oneTo, allOf, has}
-use Rattle.lawful.specs.Shape.{one, bit}
-use Rattle.lawful.proofs.Truth.{both, and-of, same-bool, of-same}
-use Rattle.lawful.proofs.Shape.{one-same, one-other, one-eq}
-use Rattle.lawful.proofs.Queues.{count-cons}
-use Rattle.lawful.proofs.Bits.{bit-of}
+use Rattle.words.specs.Counting.{one, bit}
+use Rattle.words.proofs.Counting.{one-same, one-other, one-eq}
+use Rattle.threads.proofs.Queues.{count-cons}
+use Rattle.words.proofs.Bits.{bit-of}
 
 -- ---- Every number of a list.
 pub all-of : (p : ℕ → Bool) (l : List ℕ) → allOf p l ≡ true → (y : ℕ) → 1 ≤ count y l → p y ≡ true

@@ -7,10 +7,10 @@ use mathlib.Core.List.{List, [], _∷_}
 use Prim.Native.Nat.{ℕ, zero, suc, _+_, _≤_, _<_}
 use native.Mathlib.Omega.{arith}
 use lib.ListN.{length, getD}
-use Rattle.threads.proofs.Lists.{tested}
+use Rattle.words.proofs.Truth.{tested}
 use Rattle.words.specs.Words.{if_then_else_, oneTo, howMany}
 use Rattle.words.proofs.Ones.{many-append}
-use Rattle.lawful.specs.Shape.{sum}
+use Rattle.words.specs.Counting.{sum}
 
 -- f 1 + f 2 + .. + f n
 unfoldable pub total : (ℕ → ℕ) → ℕ → ℕ

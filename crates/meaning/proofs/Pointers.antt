@@ -7,15 +7,15 @@ use mathlib.Core.List.{List, [], _∷_}
 use Prim.Native.Nat.{ℕ, _≤_}
 use native.Mathlib.Omega.{arith}
 use native.Mathlib.Nat.{eq-zero-or-pos}
-use lib.ListN.{length}
+use lib.ListN.{length, length-map}
 use lib.Dec.{eqb, leb}
 use borrow.Author.Tests.{eqb-true, eq-eqb, leb-true, le-leb}
 use Rattle.threads.specs.declared.Threads.{Threads}
 use Rattle.threads.specs.Threads.{count, counts, queuesOf, threaded, Sound}
 use Rattle.words.specs.Words.{oneTo, allOf, sameList}
 use Rattle.meaning.specs.Rules.{everywhere, pointersSound}
-use Rattle.lawful.proofs.Truth.{both, and-of}
-use Rattle.lawful.proofs.Tests.{all-of, of-all, to-all, one-to}
+use Rattle.words.proofs.Truth.{both, and-of}
+use Rattle.threads.proofs.Tests.{all-of, of-all, to-all, one-to}
 
 same-list : (l m : List ℕ) → sameList l m ≡ true → l ≡ m
 unfolding sameList
@@ -64,6 +64,11 @@ sound-of t n e =
           };
       canon = same-threads t (threaded ls) (same-list _ _ (fb .0)) (same-list _ _ (fb .1)) (same-list _ _ (fl .0)) (same-list _ _ (fl .1));
     }
+
+-- as many lists as there are first blocks
+pub nine-queues : (t : Threads) → length (t .first) ≡ 9 → length (queuesOf t) ≡ 9
+unfolding queuesOf
+nine-queues t h = length-map (t .first) _ ∙ h
 
 -- ---- And back.
 of-everywhere : (p : ℕ → Bool) (ls : List (List ℕ)) → ((y : ℕ) → 1 ≤ counts y ls → p y ≡ true) → everywhere p ls ≡ true

@@ -6,13 +6,13 @@ use Prim.Native.Nat.{ℕ, _^_, _≤_, _<_}
 use native.Mathlib.Omega.{arith}
 use lib.Pow.{pow-mono}
 use borrow.Author.Tests.{eq-eqb, ne-eqb}
 use Rattle.words.specs.Words.{has, adding, dropping, least}
 use Rattle.words.proofs.Places.{under-or-from}
 use Rattle.words.proofs.Members.{has-within}
 use Rattle.words.proofs.Changes.{has-adding, has-dropping}
 use Rattle.words.proofs.Least.{least-has}
-use Rattle.lawful.specs.Shape.{bit}
-use Rattle.lawful.proofs.Bits.{bit-of, bit-same}
+use Rattle.words.specs.Counting.{bit}
+use Rattle.words.proofs.Bits.{bit-of, bit-same}
 
 module _ (w n : ℕ) where
   pub added-same : bit (adding w n) n ≡ 1

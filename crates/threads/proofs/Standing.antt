@@ -6,12 +6,12 @@ use Prim.Native.Nat.{ℕ, zero, suc, _≤_, _<_}
 use native.Mathlib.Omega.{arith}
 use native.Mathlib.Nat.{le-of-suc-le-suc, not-suc-le-zero}
 use lib.ListN.{length, getD}
 use Rattle.threads.specs.Threads.{count, counts}
 use Rattle.threads.proofs.Lists.{count-nil}
 use Rattle.words.specs.Words.{_among_, standing}
-use Rattle.lawful.specs.Shape.{one}
-use Rattle.lawful.proofs.Shape.{one-same, one-other, one-suc}
-use Rattle.lawful.proofs.Tests.{among-count, count-among}
+use Rattle.words.specs.Counting.{one}
+use Rattle.words.proofs.Counting.{one-same, one-other, one-suc}
+use Rattle.threads.proofs.Tests.{among-count, count-among}
 
 pub in-some : (y : ℕ) (ls : List (List ℕ)) (q : ℕ) → count y (getD ls q []) ≤ counts y ls
 unfolding counts
