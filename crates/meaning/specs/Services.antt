@@ -30,14 +30,7 @@ stopped s p = withRunning (placed s (s .running) p) 0
 unfoldable pub created : State → ℕ → ℕ → ℕ → State
 created s k m p = withTask (withFreeTasks s (dropping (s .freeTasks) k)) k (newTask m p)
 
--- "A freed block is used again: always the lowest-numbered free one."
-abbrev pub lowestTask : State → ℕ
-lowestTask s = least (s .freeTasks)
-
-abbrev pub lowestRequest : State → ℕ
-lowestRequest s = least (s .freeRequests)
-
--- ---- Service calls.
+-- ---- Service calls. "A freed block is used again: always the lowest-numbered free one", the least of the free.
 
 -- "FREEMAIN frees the caller's run, if any; it isn't granted again."
 unfoldable pub freemain : State → Call → Effect
@@ -45,9 +38,7 @@ freemain s c = givenBack s (s .running) giving 1
 
 -- "LINK makes a child and the caller waits for it."
 unfoldable pub link : State → Call → Effect
-link s c =
-    let k = lowestTask s in
-    madeReady (stopped (created s k (c .number) (s .running)) InLink) k giving k
+link s c = let k = least (s .freeTasks) in madeReady (stopped (created s k (c .number) (s .running)) InLink) k giving k
 
 -- "END: a caller with requests queued or on the channel waits as ending and keeps its core; otherwise it finishes."
 unfoldable pub end : State → Call → Effect
@@ -56,7 +47,7 @@ end s c = ended (withRunning s 0) (s .running) giving 1
 -- SCHEDULE: "A condition that holds at the call doesn't wait".
 unfoldable pub schedule : State → Call → Effect
 schedule s c =
-    let k = lowestTask s in
+    let k = least (s .freeTasks) in
     let made = created s k (c .number) 0 in
     (if holds s c then madeReady made k else waiting made k c) giving k
 
@@ -93,7 +84,7 @@ asked s r c =
     withRequest (withFreeRequests s (dropping (s .freeRequests) r)) r (request Queued (s .running) (c .number) (c .code) (c .amount))
 
 unfoldable pub readOrWrite : State → Call → Effect
-readOrWrite s c = let r = lowestRequest s in channelFilled (queued (asked s r c) r) giving r
+readOrWrite s c = let r = least (s .freeRequests) in channelFilled (queued (asked s r c) r) giving r
 
 -- "CHECK: done request, block freed, go on; pending one, wait for it."
 unfoldable pub awaitsRequest : State → ℕ → State
@@ -139,9 +130,7 @@ programCheck s c = aborted taskBlocks (s .running) (withRunning s 0) giving 1
 
 -- operator start: a task with no parent; "Kind 0 holds at once (LINK and start always use it)"
 unfoldable pub operatorStart : State → Call → Effect
-operatorStart s c =
-    let k = lowestTask s in
-    madeReady (created s k (c .number) 0) k giving k
+operatorStart s c = let k = least (s .freeTasks) in madeReady (created s k (c .number) 0) k giving k
 
 -- ---- All calls: for each code what a call of it does.
 infix 68 _does_

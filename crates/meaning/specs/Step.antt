@@ -26,9 +26,7 @@ accepted t bytes =
 
 -- "The first that applies in the table's order is given."
 unfoldable pub stepOf : Tables → List ℕ → Step
-stepOf t bytes =
-    let n = firstOf (refusals t bytes) in
-    if eqb n 0 then accepted t bytes else refused t n
+stepOf t bytes = let n = firstOf (refusals t bytes) in if eqb n 0 then accepted t bytes else refused t n
 
 -- Loading: the loaded state of the directory, or all-zero tables.
 unfoldable pub tablesOf : List ℕ → Tables

@@ -11,7 +11,7 @@ use Rattle.words.specs.Words.{below}
 use Rattle.words.specs.Bytes.{digit}
 use Rattle.words.proofs.Lists.{listed-length, listed-at, listed-of}
 use Rattle.words.proofs.Numbers.{digit-number, number-digits}
-use Rattle.sealed.specs.Sealed.{weighted, checkOf, storedCheck, passes, sealed}
+use Rattle.sealed.specs.Sealed.{weighted, checkOf, passes, sealed}
 
 -- ---- What the check looks at, and how great it is.
 
@@ -64,7 +64,7 @@ module _ (b : List ℕ) (long : length b ≡ 512) (bytes : (k : ℕ) → getD b 
   check-same : map (digit (checkOf b)) (below 2) ≡ drop 510 b
   check-same =
       listed-of (digit (checkOf b)) (drop 510 b) 2 0 (length-drop 510 b ∙ omega (arith, long))
-      (λ j l. ap (λ (x : ℕ). digit x j) (sym (eqb-true (storedCheck b) (checkOf b) e)) ∙ digit-number b bytes 2 510 j l ∙ sym (getD-drop 510 b j 0))
+      (λ j l. ap (λ (x : ℕ). digit x j) (sym (eqb-true (number b 510 2) (checkOf b) e)) ∙ digit-number b bytes 2 510 j l ∙ sym (getD-drop 510 b j 0))
 
   pub passes-sealed : sealed (take 510 b) ≡ b
   unfolding sealed

@@ -16,13 +16,9 @@ weighted b (suc i) = weighted b i + (i + 1) * getD b i 0
 unfoldable pub checkOf : List ℕ → ℕ
 checkOf b = 1 + weighted b 510 % 65521
 
--- "510-511 | check"
-abbrev pub storedCheck : List ℕ → ℕ
-storedCheck b = number b 510 2
-
--- a block whose check is its own
+-- "510-511 | check": a block whose check is its own
 abbrev pub passes : List ℕ → Bool
-passes b = eqb (storedCheck b) (checkOf b)
+passes b = eqb (number b 510 2) (checkOf b)
 
 -- the bytes 0 to 509, and the check of them, "510-511 | check"
 unfoldable pub sealed : List ℕ → List ℕ
