@@ -10,7 +10,7 @@ use Rattle.words.specs.Words.{least}
 use Rattle.calls.specs.declared.Call.{Call}
 use Rattle.tables.specs.declared.Request.{Request}
 use Rattle.tables.specs.declared.Tables.{Tables}
-use Rattle.tables.specs.Blocks.{Queued, noRequest, request}
+use Rattle.tables.specs.Blocks.{Queued, noRequest, request, taskBlocks, requestBlocks}
 use Rattle.tables.specs.State.{State, channelQueue, node, requestAt, queue}
 use Rattle.tables.specs.Held.{Shows, Fit, Held}
 use Rattle.tables.proofs.Held.{held}
@@ -33,7 +33,7 @@ module _ {s : State} {c : Call} (f : Fit s) (g : Transferring s c) where
   abbrev some : 1 ≤ least (s .freeRequests)
   some = freeRequests-some (g .shape) (g .freeRequests)
 
-  abbrev low : least (s .freeRequests) ≤ 16
+  abbrev low : least (s .freeRequests) ≤ requestBlocks
   low = freeRequests-low (g .shape) (g .freeRequests)
 
   in-no-queue : counts (node r) (s .queues) ≡ 0
@@ -46,7 +46,7 @@ module _ {s : State} {c : Call} (f : Fit s) (g : Transferring s c) where
       (λ z. w .others q (omega (arith, z .1, l, g .shape .sizes .queues)))
       (tested q channelQueue))
 
-  owner-of : (j : ℕ) → j ≤ 16 → requestAt (asked s r c) j .owner ≤ 24
+  owner-of : (j : ℕ) → j ≤ requestBlocks → requestAt (asked s r c) j .owner ≤ taskBlocks
   unfolding asked
   owner-of j l =
       ⊎-elim

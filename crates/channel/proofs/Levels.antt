@@ -3,7 +3,7 @@
 use mathlib.Core.Path.{_≡_, refl, ap, _∙_}
 use mathlib.Core.Logic.{⊎-elim}
 use mathlib.Core.List.{List}
-use Prim.Native.Nat.{ℕ, _+_, _-_, _≤_, _<_}
+use Prim.Native.Nat.{ℕ, _+_, _-_, _≤_, _<_, suc}
 use native.Mathlib.Omega.{arith}
 use lib.ListN.{set, getD, length-set, replicate}
 use lib.Seq.{getD-set-same, getD-set-other}
@@ -16,8 +16,10 @@ use Rattle.meaning.specs.Channel.{channelLevel}
 use Rattle.blocks.proofs.Placed.{placed-same}
 use Rattle.channel.specs.Queue.{Levels}
 use Rattle.channel.proofs.Started.{queued-request}
+use Rattle.tables.specs.Blocks.{requestBlocks}
+use Rattle.threads.specs.Threads.{BLOCKS}
 
-pub levels-none : (s : State) → Levels s 0 (replicate 41 0)
+pub levels-none : (s : State) → Levels s 0 (replicate (suc BLOCKS) 0)
 levels-none s = record { cells = refl; level = λ r a b. absurd (omega (arith, a, b)) }
 
 pub levels-more : (s : State) {keys : List ℕ} (n : ℕ) {v : ℕ} → Levels s n keys → n < 16 → v ≡ levelOf s (requestAt s (n + 1) .owner)
@@ -34,7 +36,7 @@ levels-more s {keys} n {v} h l e =
     }
 
 -- by those levels a request block comes to the place in the queue that its owner's level gives it
-pub placed-by-level : {t : Tables} {keys : List ℕ} {r : ℕ} → Held t → Levels (read t) 16 keys → 1 ≤ r → r ≤ 16
+pub placed-by-level : {t : Tables} {keys : List ℕ} {r : ℕ} → Held t → Levels (read t) 16 keys → 1 ≤ r → r ≤ requestBlocks
     → insertedBy (λ y. getD keys y 0) (node r) (queue (read t) channelQueue) ≡ insertedBy (channelLevel (read t)) (node r) (queue (read t) channelQueue)
 placed-by-level {t} {keys} h l a b =
     placed-same (λ y. getD keys y 0) (channelLevel (read t)) _ (queue (read t) channelQueue) (l .level _ a b)

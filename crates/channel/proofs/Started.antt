@@ -5,7 +5,7 @@ use mathlib.Core.Logic.{_≢_}
 use Prim.Native.Nat.{ℕ, _≤_, _<_}
 use native.Mathlib.Omega.{arith}
 use borrow.Author.Tests.{eq-eqb, ne-eqb}
-use Rattle.threads.specs.Threads.{hd, count}
+use Rattle.threads.specs.Threads.{hd, count, BLOCKS}
 use Rattle.threads.proofs.Read.{node-fits}
 use Rattle.words.specs.Words.{isEmpty}
 use Rattle.tables.specs.declared.Tables.{Tables}
@@ -30,8 +30,8 @@ module _ (s : State) where
   goes-on z f e l = rw (eq-eqb _ _ z, f, l, e)
 
 -- whoever is in the channel queue is a request block
-pub queued-request : {t : Tables} {y : ℕ} → Held t → 1 ≤ count y (queue (read t) channelQueue) → (24 < y) × (y ≤ 40)
+pub queued-request : {t : Tables} {y : ℕ} → Held t → 1 ≤ count y (queue (read t) channelQueue) → (24 < y) × (y ≤ BLOCKS)
 queued-request h c = (h .fit .requests _ c, omega (arith, node-fits (record { sound = h .sound; queue = omega arith; here = c })))
 
-pub first-request : {t : Tables} {n : ℕ} → Held t → n ≡ hd (queue (read t) channelQueue) → n ≢ 0 → (24 < n) × (n ≤ 40)
+pub first-request : {t : Tables} {n : ℕ} → Held t → n ≡ hd (queue (read t) channelQueue) → n ≢ 0 → (24 < n) × (n ≤ BLOCKS)
 first-request h e n = queued-request h (first-member (h .sound) (omega arith) e n .here)

@@ -7,7 +7,7 @@ use lib.ListN.{length, getD}
 use Rattle.threads.specs.Threads.{count}
 use Rattle.words.specs.Words.{each}
 use Rattle.tables.specs.declared.Tables.{Tables}
-use Rattle.tables.specs.Blocks.{Free, Ready, Ending}
+use Rattle.tables.specs.Blocks.{Free, Ready, Ending, taskBlocks}
 use Rattle.tables.specs.State.{State, withRunning, taskAt, read}
 use Rattle.calls.specs.Calls.{PROGRAM-CHECK, callOf}
 use Rattle.meaning.specs.Finish.{aborted}
@@ -28,13 +28,13 @@ module _ (image : List ℕ) {t : Tables} (reached : Reached image t) where
   lawful = reached-lawful image reached .state
 
   -- ---- "LINK parents never form a ring": from no task does one come back to it, parent by parent. So 24 steps above a task is none, and no task is met twice on the way
-  pub no-ring : (k n : ℕ) → 1 ≤ k → k ≤ 24 → 1 ≤ n → upward s n k ≢ k
+  pub no-ring : (k n : ℕ) → 1 ≤ k → k ≤ taskBlocks → 1 ≤ n → upward s n k ≢ k
   no-ring = no-return (lawful .shape)
 
-  pub chain-of-24 : (k : ℕ) → 1 ≤ k → k ≤ 24 → upward s 24 k ≡ 0
+  pub chain-of-24 : (k : ℕ) → 1 ≤ k → k ≤ taskBlocks → upward s 24 k ≡ 0
   chain-of-24 = chain-ends (lawful .shape)
 
-  pub none-twice : (i j k : ℕ) → k ≤ 24 → i < j → upward s j k ≢ 0 → upward s j k ≢ upward s i k
+  pub none-twice : (i j k : ℕ) → k ≤ taskBlocks → i < j → upward s j k ≢ 0 → upward s j k ≢ upward s i k
   none-twice = each-once (lawful .shape)
 
   -- ---- "so an abort takes": a program check takes the tasks of a list, one after the other and each wholly before the next, and does nothing else
@@ -49,7 +49,7 @@ module _ (image : List ℕ) {t : Tables} (reached : Reached image t) where
   the-chain = chain lawful
 
   -- "at most 24 tasks"; the bound cuts nothing: a greater one would take the same
-  pub at-most-24 : length victims ≤ 24
+  pub at-most-24 : length victims ≤ taskBlocks
   at-most-24 = at-most 24 (t .running) (withRunning s 0)
 
   pub none-cut : (n : ℕ) → 24 ≤ n → aborted n (t .running) (withRunning s 0) ≡ aborted 24 (t .running) (withRunning s 0)

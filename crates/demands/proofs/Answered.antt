@@ -5,10 +5,10 @@
 use mathlib.Core.Path.{_≡_, refl}
 use mathlib.Core.Logic.{_≢_, _⊎_, ⊎-elim, _↔_}
 use mathlib.Core.List.{List}
-use Prim.Native.Nat.{ℕ, _≤_}
+use Prim.Native.Nat.{ℕ, _≤_, suc}
 use native.Mathlib.Omega.{arith}
 use lib.ListN.{replicate}
-use Rattle.threads.specs.Threads.{after, before, listOf, tab, row, threaded}
+use Rattle.threads.specs.Threads.{after, before, listOf, tab, row, threaded, BLOCKS}
 use Rattle.words.specs.Words.{_among_}
 use Rattle.words.specs.Rows.{firstOf}
 use Rattle.answers.specs.declared.Outcome.the-variants.{Refused, Accepted}
@@ -83,7 +83,7 @@ pub zeros : tabled allZero ≡ record {
   pools = replicate 4 0;
   tasks = replicate 25 (record { place = 0; program = 0; parent = 0; core = 0; start = 0; count = 0; events = 0; time = 0; request = 0 });
   requests = replicate 17 (record { place = 0; owner = 0; device = 0; command = 0; bytes = 0 });
-  threads = record { fwd = replicate 41 0; back = replicate 41 0; first = replicate 9 0; last = replicate 9 0 };
+  threads = record { fwd = replicate (suc BLOCKS) 0; back = replicate (suc BLOCKS) 0; first = replicate 9 0; last = replicate 9 0 };
 }
 unfolding allZero threaded after before listOf _among_ tab row
 zeros = refl

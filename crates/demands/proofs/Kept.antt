@@ -8,12 +8,12 @@ use Prim.Native.Nat.{ℕ, _+_, _≤_, _<_}
 use lib.ListN.{getD}
 use lib.Bits.{bitAnd}
 use lib.Dec.{eqb}
-use Rattle.threads.specs.Threads.{lst, count, counts, Sound}
+use Rattle.threads.specs.Threads.{lst, count, counts, Sound, BLOCKS, QUEUES}
 use Rattle.threads.proofs.Read.{last-of}
 use Rattle.words.specs.Words.{if_then_else_, oneTo, _among_, howMany, has, size}
 use Rattle.answers.specs.declared.Outcome.the-variants.{Refused}
 use Rattle.tables.specs.declared.Tables.{Tables}
-use Rattle.tables.specs.Blocks.{Free, Running, Ending, Queued, OnChannel, Done}
+use Rattle.tables.specs.Blocks.{Free, Running, Ending, Queued, OnChannel, Done, taskBlocks, requestBlocks}
 use Rattle.tables.specs.State.{State, eventQueue, coreQueue, channelQueue, node, taskAt, requestAt, poolAt, queue, levelOf, unitsOf, read}
 use Rattle.meaning.specs.Rules.{queueFor, holdsUnit, rulesHold}
 use Rattle.meaning.specs.Step.{stepOf}
@@ -44,7 +44,7 @@ module _ (image : List ℕ) {t : Tables} (reached : Reached image t) where
 
   -- ---- "Each task .. block is in exactly one place": its place is one of the nine; it stands once in the queue of that place and level, and in no other queue; it runs where its
   -- place is running, and is free where its place is free
-  module _ (k : ℕ) (some : 1 ≤ k) (low : k ≤ 24) where
+  module _ (k : ℕ) (some : 1 ≤ k) (low : k ≤ taskBlocks) where
     pub task-place : taskAt s k .place ≤ Ending
     task-place = lawful .shape .tasks k some low .fields .place
 
@@ -52,7 +52,7 @@ module _ (image : List ℕ) {t : Tables} (reached : Reached image t) where
     unfolding placeOf _among_
     task-level used = (level-best (lawful .shape) some low used, level-worst (lawful .shape) some low used)
 
-    pub task-in-one-queue : (q : ℕ) → q < 9 → count k (queue s q) ≡ (if eqb (queueFor (taskAt s k .place) (levelOf s k)) q then 1 else 0)
+    pub task-in-one-queue : (q : ℕ) → q < QUEUES → count k (queue s q) ≡ (if eqb (queueFor (taskAt s k .place) (levelOf s k)) q then 1 else 0)
     unfolding placeOf _among_ one
     task-in-one-queue = lawful .shape .tasks k some low .queued
 
@@ -65,7 +65,7 @@ module _ (image : List ℕ) {t : Tables} (reached : Reached image t) where
     task-free = has-where (t .freeTasks) k (taskAt s k .place) Free (lawful .shape .tasks k some low .freeTasks)
 
   -- "and request block is in exactly one place": one of the four; once in the channel queue where it is queued, in no other queue, on the channel or not, free or not
-  module _ (r : ℕ) (some : 1 ≤ r) (low : r ≤ 16) where
+  module _ (r : ℕ) (some : 1 ≤ r) (low : r ≤ requestBlocks) where
     pub request-place : requestAt s r .place ≤ Done
     request-place = lawful .shape .requests r some low .kind
 
@@ -83,13 +83,13 @@ module _ (image : List ℕ) {t : Tables} (reached : Reached image t) where
     request-free = has-where (t .freeRequests) r (requestAt s r .place) Free (lawful .shape .requests r some low .freeRequests)
 
   -- and nothing else is in a place: queues hold blocks, and what runs or is on the channel is a block or none
-  pub queues-hold-tasks : (q y : ℕ) → q < 8 → 1 ≤ count y (queue s q) → (1 ≤ y) × (y ≤ 24)
+  pub queues-hold-tasks : (q y : ℕ) → q < 8 → 1 ≤ count y (queue s q) → (1 ≤ y) × (y ≤ taskBlocks)
   queues-hold-tasks q y l c = (member-some (lawful .shape) y q l c, member-low (lawful .shape) y q l c)
 
   pub channel-holds-requests : (y : ℕ) → 1 ≤ count y (queue s channelQueue) → (node 1 ≤ y) × (y ≤ node 16)
   channel-holds-requests y c = (channel-high (lawful .shape) y c, channel-low (lawful .shape) y c)
 
-  pub runs-a-block : (t .running ≤ 24) × (t .channel ≤ 16)
+  pub runs-a-block : (t .running ≤ taskBlocks) × (t .channel ≤ requestBlocks)
   runs-a-block = (lawful .shape .blank .running, lawful .shape .blank .channel)
 
   -- ---- "its threads agreeing forward and back", of the pointers alone. Of two blocks y and z (task blocks 1 to 24, request blocks 25 to 40), z is behind y where y is before z; a
@@ -103,17 +103,17 @@ module _ (image : List ℕ) {t : Tables} (reached : Reached image t) where
   pub threads : Sound (t .threads)
   threads = reached-lawful image reached .pointers
 
-  pub agree : (y z : ℕ) → 1 ≤ y → y ≤ 40 → 1 ≤ z → z ≤ 40 → (fwd y ≡ z) ↔ (back z ≡ y)
+  pub agree : (y z : ℕ) → 1 ≤ y → y ≤ BLOCKS → 1 ≤ z → z ≤ BLOCKS → (fwd y ≡ z) ↔ (back z ≡ y)
   agree = both-ways (t .threads) threads
 
-  pub name-blocks : (y : ℕ) → y ≤ 40 → (fwd y ≤ 40) × (back y ≤ 40)
+  pub name-blocks : (y : ℕ) → y ≤ BLOCKS → (fwd y ≤ BLOCKS) × (back y ≤ BLOCKS)
   name-blocks = names-blocks (t .threads) threads
 
-  pub none : (y : ℕ) → 1 ≤ y → y ≤ 40 → counts y (s .queues) ≡ 0 → (fwd y ≡ 0) × (back y ≡ 0)
+  pub none : (y : ℕ) → 1 ≤ y → y ≤ BLOCKS → counts y (s .queues) ≡ 0 → (fwd y ≡ 0) × (back y ≡ 0)
   none y some low out = (none-behind (t .threads) threads y some low out, none-ahead (t .threads) threads y some low out)
 
   -- the first of a queue has none before it, and no other block of a queue has; the last has none behind it, and no other
-  module _ (q : ℕ) (low : q < 9) where
+  module _ (q : ℕ) (low : q < QUEUES) where
     pub none-before-first : back (getD (t .threads .first) q 0) ≡ 0
     none-before-first = first-ends (t .threads) threads q low
 
@@ -124,17 +124,17 @@ module _ (image : List ℕ) {t : Tables} (reached : Reached image t) where
     last-is-last = last-of (t .threads) threads q low
 
   module _ (y : ℕ) (in-queue : 1 ≤ counts y (s .queues)) where
-    pub only-first : back y ≡ 0 → (q : ℕ) × (q < 9) × (getD (t .threads .first) q 0 ≡ y)
+    pub only-first : back y ≡ 0 → (q : ℕ) × (q < QUEUES) × (getD (t .threads .first) q 0 ≡ y)
     only-first = begins (t .threads) threads y in-queue
 
-    pub only-last : fwd y ≡ 0 → (q : ℕ) × (q < 9) × (getD (t .threads .last) q 0 ≡ y)
+    pub only-last : fwd y ≡ 0 → (q : ℕ) × (q < QUEUES) × (getD (t .threads .last) q 0 ≡ y)
     only-last = ends (t .threads) threads y in-queue
 
   -- ---- "Core runs of a level are disjoint and with its free units make 64": no unit is in the runs of two tasks; and each of the 64 units is in one run, or free
-  pub runs-disjoint : (i j level u : ℕ) → 1 ≤ i → i ≤ 24 → 1 ≤ j → j ≤ 24 → holdsUnit s level u i ≡ true → holdsUnit s level u j ≡ true → i ≡ j
+  pub runs-disjoint : (i j level u : ℕ) → 1 ≤ i → i ≤ taskBlocks → 1 ≤ j → j ≤ taskBlocks → holdsUnit s level u i ≡ true → holdsUnit s level u j ≡ true → i ≡ j
   runs-disjoint = runs-apart (lawful .shape)
 
-  pub make-64 : (level u : ℕ) → 1 ≤ level → level ≤ 3 → u < 64 → howMany (holdsUnit s level u) (oneTo 24) ≡ (if has (poolAt s level) u then 1 else 0)
+  pub make-64 : (level u : ℕ) → 1 ≤ level → level ≤ 3 → u < 64 → howMany (holdsUnit s level u) (oneTo taskBlocks) ≡ (if has (poolAt s level) u then 1 else 0)
   make-64 level u lo hi l = units-make (lawful .shape) level u lo hi
 
   -- ---- "No event waiter's condition already holds": of its set fewer events are on than it waits for

@@ -9,7 +9,7 @@ use Rattle.threads.specs.Threads.{count}
 use Rattle.words.proofs.Truth.{tested}
 use Rattle.words.specs.Words.{oneTo, each}
 use Rattle.tables.specs.declared.Tables.{Tables}
-use Rattle.tables.specs.Blocks.{Done}
+use Rattle.tables.specs.Blocks.{Done, requestBlocks}
 use Rattle.tables.specs.State.{State, taskAt, requestAt, read}
 use Rattle.tables.specs.Held.{Shows}
 use Rattle.meaning.specs.Finish.{givenBack, freedIfDone, freedDone}
@@ -27,14 +27,14 @@ use Rattle.ending.specs.Ending.{Parent, Finishing}
 
 -- ---- Done requests are freed.
 module _ {h : List ℕ} {e : ℕ} (k : ℕ) where
-  done-one : (s : State) (r : ℕ) → 1 ≤ r → r ≤ 16 → Shape s h e → Shape (freedIfDone k r s) h e
+  done-one : (s : State) (r : ℕ) → 1 ≤ r → r ≤ requestBlocks → Shape s h e → Shape (freedIfDone k r s) h e
   unfolding freedIfDone
   done-one s r a b g =
       ⊎-elim
       (λ y. ⊎-elim (λ z. rw (y .0, z .0) (free-request g r a b (z .1))) (λ z. rw (y .0, z .0) g) (tested (requestAt s r .place) Done))
       (λ y. rw (y .0) g) (tested (requestAt s r .owner) k)
 
-  done-each : (l : List ℕ) (s : State) → ((i : ℕ) → 1 ≤ count i l → (1 ≤ i) × (i ≤ 16)) → Shape s h e → Shape (each (freedIfDone k) l s) h e
+  done-each : (l : List ℕ) (s : State) → ((i : ℕ) → 1 ≤ count i l → (1 ≤ i) × (i ≤ requestBlocks)) → Shape s h e → Shape (each (freedIfDone k) l s) h e
   unfolding each
   done-each [] s f g = g
   done-each (r ∷ l) s f g =
@@ -43,7 +43,7 @@ module _ {h : List ℕ} {e : ℕ} (k : ℕ) where
 
   done-shape : (s : State) → Shape s h e → Shape (freedDone s k) h e
   unfolding freedDone
-  done-shape s g = done-each (oneTo 16) s (to-top 16) g
+  done-shape s g = done-each (oneTo requestBlocks) s (to-top 16) g
 
 -- ---- The steps of finishing.
 module _ {t : Tables} {k : ℕ} (f : Finishing t k) where

@@ -8,7 +8,7 @@ use lib.Dec.{eqb}
 use Rattle.words.specs.Words.{_implies_, allOf, someOf, oneTo, standing, has}
 use Rattle.image.specs.declared.Entry.{Entry}
 use Rattle.tables.specs.declared.Tables.{Tables}
-use Rattle.tables.specs.Blocks.{Free, InCheck}
+use Rattle.tables.specs.Blocks.{Free, InCheck, requestBlocks}
 use Rattle.tables.specs.State.{State, read, node, taskAt, requestAt, entryFor, levelOf, unitsOf}
 use Rattle.meaning.specs.Rules.{blankTask}
 use Rattle.fields.specs.Blocks.{fieldsRight, placeRight, waiterRight, pends, pendingRight, taskPasses, Marked, requestMarked, requestPasses}
@@ -24,7 +24,7 @@ all-same p q n f =
 
 -- the request blocks, by the marks
 pub requests-marked : (t : Tables) {m : List ℕ} → Marked t m
-    → allOf (requestMarked (t .requests) m (t .freeTasks) (t .freeRequests) (t .channel)) (oneTo 16) ≡ allOf (requestPasses (read t)) (oneTo 16)
+    → allOf (requestMarked (t .requests) m (t .freeTasks) (t .freeRequests) (t .channel)) (oneTo requestBlocks) ≡ allOf (requestPasses (read t)) (oneTo requestBlocks)
 unfolding requestMarked requestPasses
 requests-marked t {m} e =
     all-same (requestMarked (t .requests) m (t .freeTasks) (t .freeRequests) (t .channel)) (requestPasses (read t)) 16
@@ -32,7 +32,7 @@ requests-marked t {m} e =
 
 module _ (s : State) (k : ℕ) where
   abbrev some : Bool
-  some = someOf (λ r. pends k (requestAt s r)) (oneTo 16)
+  some = someOf (λ r. pends k (requestAt s r)) (oneTo requestBlocks)
 
   pub free-turn : {m : ℕ} {b : Bool} → m ≡ standing k (s .queues) → taskAt s k .place ≡ Free
       → b ≡ (eqb m 9 && not (eqb (s .running) k) && has (s .freeTasks) k && blankTask (taskAt s k)) → b ≡ taskPasses s k

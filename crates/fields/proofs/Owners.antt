@@ -11,6 +11,7 @@ use Rattle.words.specs.Words.{has, adding}
 use Rattle.words.proofs.Changes.{has-adding}
 use Rattle.tables.specs.declared.Request.{Request}
 use Rattle.fields.specs.Blocks.{pends}
+use Rattle.tables.specs.Blocks.{taskBlocks}
 
 or-false : (a b : Bool) → b ≡ false → a ≡ (a || b)
 or-false true b e = refl
@@ -32,5 +33,5 @@ module _ (owners : ℕ) (q : Request) (k : ℕ) where
   pub owner-not : (eqb (q .place) 1 || eqb (q .place) 2) ≡ false → has owners k ≡ (has owners k || pends k q)
   owner-not h = or-false (has owners k) _ (fails-right (eqb (q .owner) k) _ h)
 
-  pub owner-high : 24 < q .owner → k ≤ 24 → has owners k ≡ (has owners k || pends k q)
+  pub owner-high : 24 < q .owner → k ≤ taskBlocks → has owners k ≡ (has owners k || pends k q)
   owner-high h l = or-false (has owners k) _ (rw (ne-eqb (q .owner) k (λ e. omega arith)))

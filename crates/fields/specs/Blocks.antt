@@ -10,13 +10,14 @@ use Rattle.words.specs.Words.{if_then_else_, _implies_, allOf, someOf, oneTo, s
 use Rattle.tables.specs.declared.Task.{Task}
 use Rattle.tables.specs.declared.Request.{Request}
 use Rattle.tables.specs.declared.Tables.{Tables}
-use Rattle.tables.specs.Blocks.{Free, Running, InCore, InEvent, InTime, InCheck, Ending, Queued, OnChannel, NotGranted, HoldsRun, noRequest}
+use Rattle.tables.specs.Blocks.{Free, Running, InCore, InEvent, InTime, InCheck, Ending, Queued, OnChannel, NotGranted, HoldsRun, noRequest, taskBlocks, requestBlocks}
 use Rattle.tables.specs.State.{State, channelQueue, node, taskAt, requestAt, poolAt, levelOf, unitsOf, read}
 use Rattle.meaning.specs.Rules.{directoryPasses, taskInRange, requestInRange, queueFor, blankTask, blankRequest, clearTask, clearRequest}
+use Rattle.threads.specs.Threads.{BLOCKS}
 
 -- the marks say where each block stands
 pub record Marked (t : Tables) (m : List ℕ) : Type 0 where
-  pub stands : (y : ℕ) → y ≤ 40 → getD m y 0 ≡ standing y (read t .queues)
+  pub stands : (y : ℕ) → y ≤ BLOCKS → getD m y 0 ≡ standing y (read t .queues)
 
 -- ---- A task block, of a module of so many units.
 
@@ -70,7 +71,7 @@ taskPasses s k =
     fieldsRight (s .directory .modules) (unitsOf s k) x
     && placeRight (standing k (s .queues)) (levelOf s k) (eqb (s .running) k) (has (s .freeTasks) k) x
     && waiterRight (s .directory .defined) (s .on) x
-    && pendingRight (pends k (requestAt s (x .request))) (someOf (λ r. pends k (requestAt s r)) (oneTo 16)) x
+    && pendingRight (pends k (requestAt s (x .request))) (someOf (λ r. pends k (requestAt s r)) (oneTo requestBlocks)) x
 
 -- ---- A request block: its fields, its place, and "a used request's owner is a used task".
 
@@ -98,8 +99,8 @@ requestMarked requests marks freeTasks freeRequests channel r =
 
 -- what that loop tells: whether the blocks pass, and the tasks that have a request pending, as a set
 pub record Gathered (requests : List Request) (marks : List ℕ) (freeTasks freeRequests channel : ℕ) (ok : Bool) (owners : ℕ) : Type 0 where
-  pub right : ok ≡ allOf (requestMarked requests marks freeTasks freeRequests channel) (oneTo 16)
-  pub some : (k : ℕ) → k ≤ 24 → has owners k ≡ someOf (λ r. pends k (getD requests r noRequest)) (oneTo 16)
+  pub right : ok ≡ allOf (requestMarked requests marks freeTasks freeRequests channel) (oneTo requestBlocks)
+  pub some : (k : ℕ) → k ≤ taskBlocks → has owners k ≡ someOf (λ r. pends k (getD requests r noRequest)) (oneTo requestBlocks)
 
 -- ---- The first pass: the directory, the numbers of the tables, slot 0, and each block by itself.
 
@@ -109,15 +110,15 @@ firstTests s =
     ∷ leb (s .running) 24
     ∷ leb (s .channel) 16
     ∷ eqb (bitAnd (s .on) (s .directory .defined)) (s .on)
-    ∷ ltb (s .freeTasks) (2 ^ 25)
+    ∷ ltb (s .freeTasks) (2 ^ (taskBlocks + 1))
     ∷ not (has (s .freeTasks) 0)
-    ∷ ltb (s .freeRequests) (2 ^ 17)
+    ∷ ltb (s .freeRequests) (2 ^ (requestBlocks + 1))
     ∷ not (has (s .freeRequests) 0)
     ∷ blankTask (taskAt s 0)
     ∷ blankRequest (requestAt s 0)
     ∷ eqb (poolAt s 0) 0
-    ∷ allOf (requestPasses s) (oneTo 16)
-    ∷ allOf (taskPasses s) (oneTo 24)
+    ∷ allOf (requestPasses s) (oneTo requestBlocks)
+    ∷ allOf (taskPasses s) (oneTo taskBlocks)
     ∷ []
 
 unfoldable pub firstPass : State → Bool

@@ -16,7 +16,7 @@ use Rattle.words.proofs.Places.{under-or-from}
 use Rattle.tables.specs.declared.Request.{Request}
 use Rattle.tables.specs.declared.Tables.{Tables}
 use Rattle.tables.specs.State.{State, requestAt, read}
-use Rattle.tables.specs.Blocks.{noRequest}
+use Rattle.tables.specs.Blocks.{noRequest, requestBlocks}
 use Rattle.calls.specs.declared.Call.{Call}
 use Rattle.calls.specs.Calls.{WAIT, SIGNAL, CHECK, TIMER, IO-DONE, callOf, known, needsTask}
 use Rattle.meaning.specs.Conditions.{undefinedIn}
@@ -32,7 +32,7 @@ beyond (a ∷ l) zero h = absurd (not-suc-le-zero h)
 beyond (a ∷ l) (suc i) h = beyond l i (le-of-suc-le-suc h)
 
 -- a request block that is used is one of 1 to 16
-used-block : {s : State} → Lawful s → (r : ℕ) → requestAt s r .place ≢ 0 → (1 ≤ r) × (r ≤ 16)
+used-block : {s : State} → Lawful s → (r : ℕ) → requestAt s r .place ≢ 0 → (1 ≤ r) × (r ≤ requestBlocks)
 used-block {s} g r n = (
   ⊎-elim (λ z. let i : r ≡ 0 = omega (arith, z) in absurd (n (ap (λ (q : Request). q .place) (ap (requestAt s) i ∙ g .shape .blank .request)))) (λ z. z) (under-or-from r 1),
   ⊎-elim (λ z. absurd (n (ap (λ (q : Request). q .place) (beyond (s .requests) r (omega (arith, z, g .shape .sizes .requests)))))) (λ z. z) (under-or-from 16 r),

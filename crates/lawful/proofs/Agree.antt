@@ -7,7 +7,7 @@ use Prim.Native.Nat.{ℕ, suc, _≤_, _<_}
 use native.Mathlib.Omega.{arith}
 use lib.ListN.{length, getD}
 use Rattle.threads.specs.declared.Threads.{Threads}
-use Rattle.threads.specs.Threads.{hd, lst, after, before, row, threaded, count, counts, queueIn, queuesOf, Sound}
+use Rattle.threads.specs.Threads.{hd, lst, after, before, row, threaded, count, counts, queueIn, queuesOf, Sound, BLOCKS, QUEUES}
 use Rattle.threads.proofs.Lists.{split, lst-append, after-none, before-none}
 use Rattle.threads.proofs.Flat.{flat, count-flat, fwd-row, back-row}
 use Rattle.threads.proofs.Rows.{row-at}
@@ -57,7 +57,7 @@ module _ (t : Threads) (s : Sound t) where
   unfolding threaded row
   back-zero = ap (λ (u : Threads). getD (u .back) 0 0) (s .canon)
 
-  module _ (y : ℕ) (some : 1 ≤ y) (fits : y ≤ 40) (out : counts y (queuesOf t) ≡ 0) where
+  module _ (y : ℕ) (some : 1 ≤ y) (fits : y ≤ BLOCKS) (out : counts y (queuesOf t) ≡ 0) where
     pub none-behind : getD (t .fwd) y 0 ≡ 0
     unfolding threaded
     none-behind =
@@ -72,7 +72,7 @@ module _ (t : Threads) (s : Sound t) where
   -- ---- A block of a queue, which is cut there.
   record Cut (y : ℕ) : Type 0 where
     at : ℕ
-    queue : at < 9
+    queue : at < QUEUES
     ahead : List ℕ
     behind : List ℕ
     whole : queueIn (queuesOf t) at ≡ ahead ++ y ∷ behind
@@ -85,7 +85,7 @@ module _ (t : Threads) (s : Sound t) where
   cut y c =
       let f = found-in y (queuesOf t) c in
       let q = f .0 in
-      let l : q < 9 = omega (arith, f .1, s .apart .nine) in
+      let l : q < QUEUES = omega (arith, f .1, s .apart .nine) in
       let (a, b, e) = split y (queueIn (queuesOf t) q) (f .2) in
       let w = spot s l a (y ∷ b) e in
       record {
@@ -105,7 +105,7 @@ module _ (t : Threads) (s : Sound t) where
   placed y f g = ⊎-elim (λ z. f (omega (arith, z))) (λ z. g (cut y z)) (under-or-from (counts y (queuesOf t)) 1)
 
   -- ---- The two agree.
-  module _ (y z : ℕ) (some-y : 1 ≤ y) (low-y : y ≤ 40) (some-z : 1 ≤ z) (low-z : z ≤ 40) where
+  module _ (y z : ℕ) (some-y : 1 ≤ y) (low-y : y ≤ BLOCKS) (some-z : 1 ≤ z) (low-z : z ≤ BLOCKS) where
     behind-ahead : getD (t .fwd) y 0 ≡ z → getD (t .back) z 0 ≡ y
     behind-ahead e =
         placed y (λ o. absurd (omega (arith, e, none-behind y some-y low-y o, some-z)))
@@ -126,14 +126,14 @@ module _ (t : Threads) (s : Sound t) where
     both-ways = (behind-ahead, ahead-behind)
 
   -- ---- They name blocks.
-  pub names-blocks : (y : ℕ) → y ≤ 40 → (getD (t .fwd) y 0 ≤ 40) × (getD (t .back) y 0 ≤ 40)
+  pub names-blocks : (y : ℕ) → y ≤ BLOCKS → (getD (t .fwd) y 0 ≤ BLOCKS) × (getD (t .back) y 0 ≤ BLOCKS)
   names-blocks y b =
       ⊎-elim (λ (z : y < 1). let i : y ≡ 0 = omega (arith, z) in rw i (omega (arith, fwd-zero, back-zero)))
       (λ z. placed y (λ o. omega (arith, none-behind y z b o, none-ahead y z b o))
       (λ c. (rw (c .next) (first-low (c .behind) (c .blocks-behind)), rw (c .prev) (last-low (c .ahead) (c .blocks-ahead))))) (under-or-from y 1)
 
   -- ---- The first of a queue has none before it, and no other block of it has; the last has none behind it, and no other.
-  module _ (q : ℕ) (h : q < 9) where
+  module _ (q : ℕ) (h : q < QUEUES) where
     pub first-ends : getD (t .back) (getD (t .first) q 0) 0 ≡ 0
     first-ends = go (queueIn (queuesOf t) q) refl
       where
@@ -151,13 +151,13 @@ module _ (t : Threads) (s : Sound t) where
             ap (λ (y : ℕ). getD (t .fwd) y 0) (last-of t s q h ∙ ap (lst 0) e) ∙ next-of t s q h (w .0) [] (lst a l) (e ∙ w .1)
 
   module _ (y : ℕ) (in-queue : 1 ≤ counts y (queuesOf t)) where
-    pub begins : getD (t .back) y 0 ≡ 0 → (q : ℕ) × (q < 9) × (getD (t .first) q 0 ≡ y)
+    pub begins : getD (t .back) y 0 ≡ 0 → (q : ℕ) × (q < QUEUES) × (getD (t .first) q 0 ≡ y)
     begins e =
         let c = cut y in-queue in
         let a = no-last (c .ahead) (c .blocks-ahead) (sym (c .prev) ∙ e) in
         (c .at, c .queue, first-of t s (c .at) (c .queue) ∙ ap hd (c .whole ∙ ap (λ (l : List ℕ). l ++ y ∷ c .behind) a))
 
-    pub ends : getD (t .fwd) y 0 ≡ 0 → (q : ℕ) × (q < 9) × (getD (t .last) q 0 ≡ y)
+    pub ends : getD (t .fwd) y 0 ≡ 0 → (q : ℕ) × (q < QUEUES) × (getD (t .last) q 0 ≡ y)
     ends e =
         let c = cut y in-queue in
         let b = no-first (c .behind) (c .blocks-behind) (sym (c .next) ∙ e) in

@@ -4,17 +4,17 @@ use mathlib.Core.Bool.{true}
 use mathlib.Core.Path.{_≡_, refl, sym, ap, _∙_}
 use mathlib.Core.Logic.{_≢_, ⊎-elim}
 use mathlib.Core.List.{List, []}
-use Prim.Native.Nat.{ℕ, _-_, _^_, _≤_, _<_}
+use Prim.Native.Nat.{ℕ, _-_, _^_, _≤_, _<_, _+_}
 use native.Mathlib.Omega.{arith}
 use lib.ListN.{length, set, getD, length-set}
 use lib.Seq.{getD-set-same, getD-set-other}
-use Rattle.threads.specs.Threads.{count}
+use Rattle.threads.specs.Threads.{count, QUEUES}
 use Rattle.words.proofs.Truth.{tested}
 use Rattle.words.specs.Words.{upBy}
 use Rattle.words.proofs.Changes.{adding-low}
 use Rattle.tables.specs.declared.Request.{Request}
 use Rattle.tables.specs.State.{State, channelQueue, timeQueue, node, withChannel, withFreeRequests, withRequest, withQueues, taskAt, requestAt, queue, levelOf}
-use Rattle.tables.specs.Blocks.{Free, InCheck, Ending, Queued, OnChannel, Done, noRequest}
+use Rattle.tables.specs.Blocks.{Free, InCheck, Ending, Queued, OnChannel, Done, noRequest, taskBlocks, requestBlocks}
 use Rattle.meaning.specs.Channel.{channelLevel}
 use Rattle.meaning.specs.Finish.{freedRequest}
 use Rattle.lawful.specs.Shape.{placeOf, Pending, Carried, Shape}
@@ -31,23 +31,23 @@ module _ (s : State) (r : ℕ) (x : Request) where
   -- what is asked of the new block x, of the number c on the channel, of the spare blocks f and of the queues l
   pub record Asks (c f : ℕ) (l : List (List ℕ)) (h : List ℕ) : Type 0 where
     pub some : 1 ≤ r
-    pub low : r ≤ 16
-    pub nine : length l ≡ 9
+    pub low : r ≤ requestBlocks
+    pub nine : length l ≡ QUEUES
     pub same : (q : ℕ) → q ≢ channelQueue → getD l q [] ≡ queue s q
     pub others : (y : ℕ) → y ≢ node r → count y (getD l channelQueue []) ≡ count y (queue s channelQueue)
     pub own : count (node r) (getD l channelQueue []) ≡ one (x .place) Queued
     pub kind : x .place ≤ 3
     pub free : x .place ≡ 0 → x ≡ noRequest
-    pub used : 1 ≤ x .place → (1 ≤ x .owner) × (x .owner ≤ 24) × (x .device ≤ 249) × (13 ≤ x .command) × (x .command ≤ 14) × (1 ≤ x .bytes)
+    pub used : 1 ≤ x .place → (1 ≤ x .owner) × (x .owner ≤ taskBlocks) × (x .device ≤ 249) × (13 ≤ x .command) × (x .command ≤ 14) × (1 ≤ x .bytes)
     pub owned : 1 ≤ x .place → placeOf s h (x .owner) ≢ Free
-    pub bound : c ≤ 16
+    pub bound : c ≤ requestBlocks
     pub runs : one c r ≡ one (x .place) OnChannel
     pub run-others : (y : ℕ) → 1 ≤ y → y ≢ r → one c y ≡ one (s .channel) y
-    pub requestsFree : f < 2 ^ 17
+    pub requestsFree : f < 2 ^ (requestBlocks + 1)
     pub freeRequests : bit f r ≡ one (x .place) 0
     pub freeRequests-others : (y : ℕ) → y ≢ r → bit f y ≡ bit (s .freeRequests) y
-    pub checks : (y : ℕ) → 1 ≤ y → y ≤ 24 → placeOf s h y ≡ InCheck → Pending (set (s .requests) r x) y (taskAt s y .request)
-    pub ends : (y : ℕ) → 1 ≤ y → y ≤ 24 → placeOf s h y ≡ Ending → (i : ℕ) × Pending (set (s .requests) r x) y i
+    pub checks : (y : ℕ) → 1 ≤ y → y ≤ taskBlocks → placeOf s h y ≡ InCheck → Pending (set (s .requests) r x) y (taskAt s y .request)
+    pub ends : (y : ℕ) → 1 ≤ y → y ≤ taskBlocks → placeOf s h y ≡ Ending → (i : ℕ) × Pending (set (s .requests) r x) y i
     pub levelled : upBy (channelLevel (asking c f l)) (getD l channelQueue []) ≡ true
 
   module _ {c f : ℕ} {l : List (List ℕ)} {h : List ℕ} {e : ℕ} (g : Shape s h e) (u : Asks c f l h) where
@@ -60,7 +60,7 @@ module _ (s : State) (r : ℕ) (x : Request) where
     counted : (q y : ℕ) → y ≢ node r → count y (getD l q []) ≡ count y (queue s q)
     counted q y d = ⊎-elim (λ z. rw (z .1) (u .others y d)) (λ z. ap (count y) (u .same q (z .1))) (tested q channelQueue)
 
-    ask-carried : (y : ℕ) → 1 ≤ y → y ≤ 16 → Carried (asking c f l) h y
+    ask-carried : (y : ℕ) → 1 ≤ y → y ≤ requestBlocks → Carried (asking c f l) h y
     unfolding placeOf
     ask-carried y a b =
         ⊎-elim
@@ -129,7 +129,7 @@ pending-kept {l} {y} {i} r x d p =
     record { some = p .some; low = p .low; own = rw o (p .own); first = rw o (p .first); last = rw o (p .last) }
 
 -- ---- A done request is freed.
-module _ {s : State} {h : List ℕ} {e : ℕ} (g : Shape s h e) (r : ℕ) (some : 1 ≤ r) (low : r ≤ 16) (d : requestAt s r .place ≡ Done) where
+module _ {s : State} {h : List ℕ} {e : ℕ} (g : Shape s h e) (r : ℕ) (some : 1 ≤ r) (low : r ≤ requestBlocks) (d : requestAt s r .place ≡ Done) where
   not-r : {y i : ℕ} → Pending (s .requests) y i → i ≢ r
   not-r p z = omega (arith, p .last, ap (λ (j : ℕ). requestAt s j .place) z, d)
 

@@ -11,7 +11,7 @@ use lib.Seq.{getD-set-other}
 use Rattle.words.proofs.Truth.{tested}
 use Rattle.words.specs.Words.{least}
 use Rattle.tables.specs.State.{State, withRunning}
-use Rattle.tables.specs.Blocks.{noTask}
+use Rattle.tables.specs.Blocks.{noTask, taskBlocks}
 use Rattle.calls.specs.declared.Call.{Call}
 use Rattle.meaning.specs.Conditions.{enough, holds, dueOf, waiting, awaitsEvents, awaitsTime}
 use Rattle.meaning.specs.Ready.{madeReady}
@@ -40,7 +40,7 @@ module _ {s : State} (g : Lawful s) (m : ℕ) (known : m < s .directory .modules
   abbrev k : ℕ
   k = least (s .freeTasks)
 
-  module _ (p : ℕ) (parent : p ≤ 24) (apart : p ≢ k) where
+  module _ (p : ℕ) (parent : p ≤ taskBlocks) (apart : p ≢ k) where
     pub new : InHand (created s k m p) k [] p
     new =
         let b = g .shape .blank in

@@ -12,7 +12,7 @@ use Rattle.words.proofs.Truth.{tested}
 use Rattle.words.proofs.Places.{under-or-from}
 use Rattle.tables.specs.declared.Task.{Task}
 use Rattle.tables.specs.State.{State, taskAt}
-use Rattle.tables.specs.Blocks.{noTask}
+use Rattle.tables.specs.Blocks.{noTask, taskBlocks}
 use Rattle.meaning.specs.Rules.{upward, chainsEnd}
 use Rattle.lawful.specs.Shape.{Shape, Ranked}
 use Rattle.threads.proofs.Tests.{all-to, to-all}
@@ -47,20 +47,20 @@ module _ {s : State} {h : List ℕ} {e : ℕ} (g : Shape s h e) where
   under : ℕ → ℕ
   under k = total (λ y. lower (g .ranked .rank y) (g .ranked .rank k)) 24
 
-  under-lt : (k : ℕ) → 1 ≤ k → k ≤ 24 → under k < 24
+  under-lt : (k : ℕ) → 1 ≤ k → k ≤ taskBlocks → under k < 24
   unfolding under total
   under-lt k a b =
       total-lt (λ y. lower (g .ranked .rank y) (g .ranked .rank k)) (λ y. 1) 24 k (λ y. lower-one _ _) a b
       (omega (arith, lower-ge (g .ranked .rank k) (g .ranked .rank k) (omega arith)))
 
-  under-parent : (k : ℕ) → k ≤ 24 → taskAt s k .parent ≢ 0 → taskAt s k .parent ≤ 24 → under (taskAt s k .parent) < under k
+  under-parent : (k : ℕ) → k ≤ taskBlocks → taskAt s k .parent ≢ 0 → taskAt s k .parent ≤ taskBlocks → under (taskAt s k .parent) < under k
   unfolding under
   under-parent k b n c =
       let l = g .ranked .above k b n in
       total-lt _ _ 24 (taskAt s k .parent) (λ y. lower-mono (g .ranked .rank y) _ _ l) (omega arith) c
       (omega (arith, lower-ge (g .ranked .rank (taskAt s k .parent)) (g .ranked .rank (taskAt s k .parent)) (omega arith), lower-lt _ _ l))
 
-  upward-ends : (n k : ℕ) → 1 ≤ k → k ≤ 24 → under k < n → upward s n k ≡ 0
+  upward-ends : (n k : ℕ) → 1 ≤ k → k ≤ taskBlocks → under k < n → upward s n k ≡ 0
   unfolding upward
   upward-ends zero k a b l = absurd (omega (arith, l))
   upward-ends (suc n) k a b l =
@@ -68,7 +68,7 @@ module _ {s : State} {h : List ℕ} {e : ℕ} (g : Shape s h e) where
       ⊎-elim (λ z. ap (upward s n) (z .1) ∙ upward-none g n)
       (λ z. upward-ends n (taskAt s k .parent) (omega (arith, z .1)) c (omega (arith, under-parent k b (z .1) c, l))) (tested (taskAt s k .parent) 0)
 
-  pub chain-ends : (k : ℕ) → 1 ≤ k → k ≤ 24 → upward s 24 k ≡ 0
+  pub chain-ends : (k : ℕ) → 1 ≤ k → k ≤ taskBlocks → upward s 24 k ≡ 0
   chain-ends k a b = upward-ends 24 k a b (under-lt k a b)
 
 -- where parents stay or are lost, chains end no later
@@ -81,12 +81,12 @@ upward-shorter s {s′} g f (suc n) k e =
 
 -- ---- Each once.
 module _ {s : State} {h : List ℕ} {e : ℕ} (g : Shape s h e) where
-  parent-low : (k : ℕ) → k ≤ 24 → taskAt s k .parent ≤ 24
+  parent-low : (k : ℕ) → k ≤ taskBlocks → taskAt s k .parent ≤ taskBlocks
   parent-low k b =
       ⊎-elim (λ z. let i : k ≡ 0 = omega (arith, z) in omega (arith, ap (λ (x : ℕ). taskAt s x .parent) i, ap (λ (t : Task). t .parent) (g .blank .block)))
       (λ z. g .tasks k z b .fields .parent) (under-or-from k 1)
 
-  climbs : (n k : ℕ) → k ≤ 24 → upward s (suc n) k ≢ 0 → g .ranked .rank (upward s (suc n) k) < g .ranked .rank k
+  climbs : (n k : ℕ) → k ≤ taskBlocks → upward s (suc n) k ≢ 0 → g .ranked .rank (upward s (suc n) k) < g .ranked .rank k
   unfolding upward
   climbs zero k b d = g .ranked .above k b d
   climbs (suc n) k b d =
@@ -94,14 +94,14 @@ module _ {s : State} {h : List ℕ} {e : ℕ} (g : Shape s h e) where
       let p : taskAt s k .parent ≢ 0 = λ z. d (ap (upward s (suc n)) z ∙ upward-none g (suc n)) in
       omega (arith, climbs n (taskAt s k .parent) c d, g .ranked .above k b p)
 
-  pub each-once : (i j k : ℕ) → k ≤ 24 → i < j → upward s j k ≢ 0 → upward s j k ≢ upward s i k
+  pub each-once : (i j k : ℕ) → k ≤ taskBlocks → i < j → upward s j k ≢ 0 → upward s j k ≢ upward s i k
   unfolding upward
   each-once i zero k b l d = absurd (omega (arith, l))
   each-once zero (suc j) k b l d = λ z. omega (arith, climbs j k b d, ap (g .ranked .rank) z)
   each-once (suc i) (suc j) k b l d = each-once i j (taskAt s k .parent) (parent-low k b) (omega (arith, l)) d
 
   -- so one does not come back
-  pub no-return : (k n : ℕ) → 1 ≤ k → k ≤ 24 → 1 ≤ n → upward s n k ≢ k
+  pub no-return : (k n : ℕ) → 1 ≤ k → k ≤ taskBlocks → 1 ≤ n → upward s n k ≢ k
   unfolding upward
   no-return k n a b l z = each-once 0 n k b l (λ i. omega (arith, sym z ∙ i, a)) z
 

@@ -8,12 +8,12 @@ use Prim.Native.Nat.{ℕ, _+_, _^_, _≤_, _<_}
 use native.Mathlib.Omega.{arith}
 use lib.ListN.{length, set, getD}
 use borrow.Author.Tests.{ne-eqb}
-use Rattle.threads.specs.Threads.{count}
+use Rattle.threads.specs.Threads.{count, QUEUES}
 use Rattle.words.proofs.Truth.{tested}
 use Rattle.words.specs.Words.{_among_, upBy}
 use Rattle.image.specs.declared.Directory.{Directory}
 use Rattle.tables.specs.declared.Task.{Task}
-use Rattle.tables.specs.Blocks.{Free, InLink, noTask}
+use Rattle.tables.specs.Blocks.{Free, InLink, noTask, taskBlocks, requestBlocks}
 use Rattle.tables.specs.State.{State, timeQueue, channelQueue, node, requestOf, withRunning, withFreeTasks, withPools, withTasks, withQueues, taskAt, requestAt, queue, levelOf}
 use Rattle.meaning.specs.Channel.{channelLevel}
 use Rattle.meaning.specs.Rules.{queueFor}
@@ -27,7 +27,7 @@ use Rattle.lawful.proofs.Members.{channel-high, channel-low, channel-qu
 pub record Same (s s′ : State) (y : ℕ) : Type 0 where
   pub directory : s′ .directory ≡ s .directory
   pub block : taskAt s′ y ≡ taskAt s y
-  pub queues : (q : ℕ) → q < 9 → count y (queue s′ q) ≡ count y (queue s q)
+  pub queues : (q : ℕ) → q < QUEUES → count y (queue s′ q) ≡ count y (queue s q)
   pub runs : one (s′ .running) y ≡ one (s .running) y
   pub freeTasks : bit (s′ .freeTasks) y ≡ bit (s .freeTasks) y
   pub requests : s′ .requests ≡ s .requests
@@ -52,10 +52,10 @@ module _ (s : State) (k : ℕ) (ts : List Task) (r i : ℕ) (p : List ℕ) (l : 
 
   pub record Changes (h h′ : List ℕ) (e′ : ℕ) : Type 0 where
     pub some : 1 ≤ k
-    pub low : k ≤ 24
+    pub low : k ≤ taskBlocks
     -- the block itself, where it now is; it is used and of its level if it owns a used request
     pub own : Stands changed (placeOf changed h′ k) k
-    pub owner : (j : ℕ) → 1 ≤ j → j ≤ 16 → 1 ≤ requestAt s j .place → requestAt s j .owner ≡ k → (placeOf changed h′ k ≢ Free) × (levelOf changed k ≡ levelOf s k)
+    pub owner : (j : ℕ) → 1 ≤ j → j ≤ requestBlocks → 1 ≤ requestAt s j .place → requestAt s j .owner ≡ k → (placeOf changed h′ k ≢ Free) × (levelOf changed k ≡ levelOf s k)
     -- the others do not see it
     pub blocks : (y : ℕ) → y ≢ k → getD ts y noTask ≡ taskAt s y
     pub hands : (y : ℕ) → y ≢ k → (y among h′) ≡ (y among h)
@@ -64,13 +64,13 @@ module _ (s : State) (k : ℕ) (ts : List Task) (r i : ℕ) (p : List ℕ) (l : 
     pub freeTasks : (y : ℕ) → y ≢ k → bit i y ≡ bit (s .freeTasks) y
     -- the whole
     pub long : length ts ≡ 25
-    pub nine : length l ≡ 9
+    pub nine : length l ≡ QUEUES
     pub four : length p ≡ 4
-    pub running : r ≤ 24
-    pub tasksFree : i < 2 ^ 25
+    pub running : r ≤ taskBlocks
+    pub tasksFree : i < 2 ^ (taskBlocks + 1)
     pub pool : getD p 0 0 ≡ 0
     pub core : Core (s .directory) ts p
-    pub links : (y : ℕ) → 1 ≤ y → y ≤ 24 → children ts y ≡ one (placeOf changed h′ y) InLink + one y e′
+    pub links : (y : ℕ) → 1 ≤ y → y ≤ taskBlocks → children ts y ≡ one (placeOf changed h′ y) InLink + one y e′
     pub ranked : Ranked ts
     pub timed : upBy (λ a. taskAt changed a .time) (getD l timeQueue []) ≡ true
     pub channel : getD l channelQueue [] ≡ queue s channelQueue
@@ -152,7 +152,7 @@ core-kept {d} {l} k x g f =
     record { low = g .low; units = λ level u a b. sum-kept (holding d level u) l k x noTask (f level u) ∙ g .units level u a b }
 
 -- ranks where parents stay, or are lost
-pub ranked-kept : {l m : List Task} → Ranked l → ((y : ℕ) → y ≤ 24 → (getD m y noTask .parent ≡ getD l y noTask .parent) ⊎ (getD m y noTask .parent ≡ 0)) → Ranked m
+pub ranked-kept : {l m : List Task} → Ranked l → ((y : ℕ) → y ≤ taskBlocks → (getD m y noTask .parent ≡ getD l y noTask .parent) ⊎ (getD m y noTask .parent ≡ 0)) → Ranked m
 ranked-kept g f =
     record {
       rank = g .rank;

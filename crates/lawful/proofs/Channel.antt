@@ -14,7 +14,7 @@ use Rattle.words.specs.Words.{if_then_else_, isEmpty, upBy, insertedBy, droppin
 use Rattle.words.proofs.Changes.{dropping-low}
 use Rattle.tables.specs.declared.Request.{Request}
 use Rattle.tables.specs.State.{State, eventQueue, channelQueue, coreQueue, node, requestOf, taskAt, requestAt, queue, levelOf}
-use Rattle.tables.specs.Blocks.{InLink, InCheck, Queued, OnChannel, Done, request, noRequest, awaitingRequest}
+use Rattle.tables.specs.Blocks.{InLink, InCheck, Queued, OnChannel, Done, request, noRequest, awaitingRequest, requestBlocks}
 use Rattle.calls.specs.declared.Call.{Call}
 use Rattle.meaning.specs.Conditions.{enough}
 use Rattle.meaning.specs.Finish.{freedRequest}
@@ -67,7 +67,7 @@ module _ {s : State} {h : List ℕ} {e : ℕ} (g : Shape s h e) (z : s .channel 
   r-some : 1 ≤ n - 24
   r-some = omega (arith, channel-high g n here)
 
-  r-low : n - 24 ≤ 16
+  r-low : n - 24 ≤ requestBlocks
   r-low = omega (arith, channel-low g n here)
 
   n-node : n ≡ (n - 24) + 24
@@ -155,7 +155,7 @@ module _ {s : State} {h : List ℕ} {e : ℕ} (g : Shape s h e) (some : s .freeR
   pub freeRequests-some : 1 ≤ least (s .freeRequests)
   freeRequests-some = least-some (s .freeRequests) 17 (omega arith) (g .blank .freeRequests) some (g .blank .freeRequests-none)
 
-  pub freeRequests-low : least (s .freeRequests) ≤ 16
+  pub freeRequests-low : least (s .freeRequests) ≤ requestBlocks
   freeRequests-low = omega (arith, least-low (s .freeRequests) 17 (omega arith) (g .blank .freeRequests) some (g .blank .freeRequests-none))
 
   pub freeRequests-free : requestAt s (least (s .freeRequests)) .place ≡ 0
@@ -236,7 +236,7 @@ unfolding readOrWrite asked queued channelLevel key
 transfer-keeps c g n some lo k b = transfer-settled g n some (c .number) (c .code) (c .amount) lo k b
 
 -- ---- CHECK.
-module _ {s : State} (g : Lawful s) (n : s .running ≢ 0) (r : ℕ) (some : 1 ≤ r) (low : r ≤ 16) (used : requestAt s r .place ≢ 0) (own : requestAt s r .owner ≡ s .running) where
+module _ {s : State} (g : Lawful s) (n : s .running ≢ 0) (r : ℕ) (some : 1 ≤ r) (low : r ≤ requestBlocks) (used : requestAt s r .place ≢ 0) (own : requestAt s r .owner ≡ s .running) where
   pub check-settled : Settled (if eqb (requestAt s r .place) Done then freedRequest s r else awaitsRequest s r)
   unfolding awaitsRequest
   check-settled =
@@ -254,7 +254,7 @@ module _ {s : State} (g : Lawful s) (n : s .running ≢ 0) (r : ℕ) (some : 1 �
       (park-rest i (awaitingRequest (taskAt s (s .running)) r) (rest-stopped s 0 (g .rest)))))
       (tested (requestAt s r .place) Done)
 
-pub check-keeps : {s : State} (c : Call) → Lawful s → s .running ≢ 0 → 1 ≤ c .number → c .number ≤ 16 → requestAt s (c .number) .place ≢ 0 → requestAt s (c .number) .owner ≡ s .running
+pub check-keeps : {s : State} (c : Call) → Lawful s → s .running ≢ 0 → 1 ≤ c .number → c .number ≤ requestBlocks → requestAt s (c .number) .place ≢ 0 → requestAt s (c .number) .owner ≡ s .running
     → Settled (check s c .state)
 unfolding check
 check-keeps c g n some low used own = check-settled g n (c .number) some low used own

@@ -12,7 +12,7 @@ use Rattle.words.proofs.Truth.{tested}
 use Rattle.words.specs.Words.{oneTo, each}
 use Rattle.tables.specs.declared.Request.{Request}
 use Rattle.tables.specs.State.{State, withFreeRequests, withRequests, requestAt}
-use Rattle.tables.specs.Blocks.{Done, noRequest}
+use Rattle.tables.specs.Blocks.{Done, noRequest, requestBlocks}
 use Rattle.meaning.specs.Conditions.{enough}
 use Rattle.meaning.specs.Finish.{freedRequest, freedIfDone, freedDone}
 use Rattle.lawful.specs.Shape.{Pending, Shape}
@@ -52,7 +52,7 @@ pub record Cleared (s s′ : State) (k r : ℕ) (h : List ℕ) (e : ℕ) (m : Li
   pub own : requestAt s′ r .owner ≡ k → requestAt s′ r .place ≢ Done
 
 module _ {s : State} {k : ℕ} {h : List ℕ} {e : ℕ} {m : List ℕ} (some : 1 ≤ k) (g : Shape s h e) (t : Rest s m) (n : (i : ℕ) → Pending (s .requests) k i → ⊥)
-    (r : ℕ) (a : 1 ≤ r) (b : r ≤ 16) where
+    (r : ℕ) (a : 1 ≤ r) (b : r ≤ requestBlocks) where
   blanked : requestAt (freedRequest s r) r ≡ noRequest
   unfolding freedRequest
   blanked = getD-set-same (s .requests) r noRequest noRequest (omega (arith, g .sizes .requests))
@@ -97,7 +97,7 @@ pub record ClearsAll (s s′ : State) (k : ℕ) (l : List ℕ) (h : List ℕ) (e
   pub all : (i : ℕ) → 1 ≤ count i l → requestAt s′ i .owner ≡ k → requestAt s′ i .place ≢ Done
 
 module _ {k : ℕ} {h : List ℕ} {e : ℕ} {m : List ℕ} (some : 1 ≤ k) where
-  clear-all : (l : List ℕ) (s : State) → ((i : ℕ) → 1 ≤ count i l → (1 ≤ i) × (i ≤ 16)) → Shape s h e → Rest s m → ((i : ℕ) → Pending (s .requests) k i → ⊥)
+  clear-all : (l : List ℕ) (s : State) → ((i : ℕ) → 1 ≤ count i l → (1 ≤ i) × (i ≤ requestBlocks)) → Shape s h e → Rest s m → ((i : ℕ) → Pending (s .requests) k i → ⊥)
       → ClearsAll s (each (freedIfDone k) l s) k l h e m
   unfolding each
   clear-all [] s f g t n =
@@ -121,6 +121,6 @@ module _ {k : ℕ} {h : List ℕ} {e : ℕ} {m : List ℕ} (some : 1 ≤ k) wher
       }
 
 pub done-cleared : {s : State} {k : ℕ} {h : List ℕ} {e : ℕ} {m : List ℕ} → 1 ≤ k → Shape s h e → Rest s m → ((i : ℕ) → Pending (s .requests) k i → ⊥)
-    → ClearsAll s (freedDone s k) k (oneTo 16) h e m
+    → ClearsAll s (freedDone s k) k (oneTo requestBlocks) h e m
 unfolding freedDone
-done-cleared {s} some g t n = clear-all some (oneTo 16) s (to-top 16) g t n
+done-cleared {s} some g t n = clear-all some (oneTo requestBlocks) s (to-top 16) g t n

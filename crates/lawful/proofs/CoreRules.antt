@@ -16,7 +16,7 @@ use Rattle.words.proofs.Masks.{has-run}
 use Rattle.words.proofs.Places.{under-or-from}
 use Rattle.image.specs.declared.Directory.{Directory}
 use Rattle.tables.specs.declared.Task.{Task}
-use Rattle.tables.specs.Blocks.{InLink, noTask}
+use Rattle.tables.specs.Blocks.{InLink, noTask, taskBlocks}
 use Rattle.tables.specs.State.{State, taskAt, poolAt, levelOf, unitsOf}
 use Rattle.pools.specs.Pools.{inRun, run}
 use Rattle.pools.proofs.Runs.{run-low}
@@ -59,8 +59,8 @@ holding-high d level u t b f =
     (λ c. holding-none d level u t (c .1)) (tested (t .core) 1)
 
 -- ---- All of them.
-module _ (s : State) (long : length (s .tasks) ≡ 25) (no-task : taskAt s 0 ≡ noTask) where
-  pub units-held : (level u : ℕ) → sum (holding (s .directory) level u) (s .tasks) ≡ howMany (holdsUnit s level u) (oneTo 24)
+module _ (s : State) (long : length (s .tasks) ≡ suc taskBlocks) (no-task : taskAt s 0 ≡ noTask) where
+  pub units-held : (level u : ℕ) → sum (holding (s .directory) level u) (s .tasks) ≡ howMany (holdsUnit s level u) (oneTo taskBlocks)
   units-held level u =
       sum-many (holding (s .directory) level u) (s .tasks) noTask (holdsUnit s level u) 24 long
       (holding-none (s .directory) level u (taskAt s 0) (λ z. omega (arith, z, ap (λ (t : Task). t .core) no-task))) (λ k a b. holding-number s level u k)
@@ -69,8 +69,8 @@ module _ (s : State) (long : length (s .tasks) ≡ 25) (no-task : taskAt s 0 ≡
   pub of-core : Core (s .directory) (s .tasks) (s .pools) → coreHeld s ≡ true
   unfolding coreHeld
   of-core g =
-      to-all (λ level. allOf (λ u. eqb (howMany (holdsUnit s level u) (oneTo 24)) (if has (poolAt s level) u then 1 else 0)) (below 64)) 3
-      (λ level a b. all-shown (λ u. eqb (howMany (holdsUnit s level u) (oneTo 24)) (if has (poolAt s level) u then 1 else 0)) 64
+      to-all (λ level. allOf (λ u. eqb (howMany (holdsUnit s level u) (oneTo taskBlocks)) (if has (poolAt s level) u then 1 else 0)) (below 64)) 3
+      (λ level a b. all-shown (λ u. eqb (howMany (holdsUnit s level u) (oneTo taskBlocks)) (if has (poolAt s level) u then 1 else 0)) 64
       (λ u c. eq-eqb _ _ (sym (units-held level u) ∙ g .units level u a b ∙ bit-of (poolAt s level) u refl)))
 
   pub core-of : ((level : ℕ) → poolAt s level < 2 ^ 64) → ((k : ℕ) → k < length (s .tasks) → taskAt s k .core ≡ 1 → taskAt s k .start + unitsOf s k ≤ 64)
@@ -82,28 +82,28 @@ module _ (s : State) (long : length (s .tasks) ≡ 25) (no-task : taskAt s 0 ≡
         units = λ level u a b.
             ⊎-elim
             (λ c. units-held level u
-            ∙ eqb-true _ _ (all-at (λ u. eqb (howMany (holdsUnit s level u) (oneTo 24)) (if has (poolAt s level) u then 1 else 0)) 64 u
-            (all-to (λ level. allOf (λ u. eqb (howMany (holdsUnit s level u) (oneTo 24)) (if has (poolAt s level) u then 1 else 0)) (below 64)) 3 e level a b) c)
+            ∙ eqb-true _ _ (all-at (λ u. eqb (howMany (holdsUnit s level u) (oneTo taskBlocks)) (if has (poolAt s level) u then 1 else 0)) 64 u
+            (all-to (λ level. allOf (λ u. eqb (howMany (holdsUnit s level u) (oneTo taskBlocks)) (if has (poolAt s level) u then 1 else 0)) (below 64)) 3 e level a b) c)
             ∙ sym (bit-of (poolAt s level) u refl))
             (λ c. sum-none (holding (s .directory) level u) (s .tasks) (λ k l. holding-high (s .directory) level u (taskAt s k) c (inside k l)) ∙ sym (bit-high 64 (poolAt s level) u (low level) c))
             (under-or-from u 64);
       }
 
   -- "a LINK waiter has exactly one child, a parent is in LINK"
-  children-many : (p : ℕ) → 1 ≤ p → children (s .tasks) p ≡ howMany (λ c. eqb (taskAt s c .parent) p) (oneTo 24)
+  children-many : (p : ℕ) → 1 ≤ p → children (s .tasks) p ≡ howMany (λ c. eqb (taskAt s c .parent) p) (oneTo taskBlocks)
   children-many p some =
       sum-many (λ t. one (t .parent) p) (s .tasks) noTask (λ c. eqb (taskAt s c .parent) p) 24 long
       (one-other (taskAt s 0 .parent) p (λ z. omega (arith, z, some, ap (λ (t : Task). t .parent) no-task))) (λ k a b. one-number (taskAt s k .parent) p)
 
-  pub of-links : ((p : ℕ) → 1 ≤ p → p ≤ 24 → children (s .tasks) p ≡ one (taskAt s p .place) InLink) → linked s ≡ true
+  pub of-links : ((p : ℕ) → 1 ≤ p → p ≤ taskBlocks → children (s .tasks) p ≡ one (taskAt s p .place) InLink) → linked s ≡ true
   unfolding linked
   of-links f =
-      to-all (λ k. eqb (howMany (λ c. eqb (taskAt s c .parent) k) (oneTo 24)) (if eqb (taskAt s k .place) InLink then 1 else 0)) 24
+      to-all (λ k. eqb (howMany (λ c. eqb (taskAt s c .parent) k) (oneTo taskBlocks)) (if eqb (taskAt s k .place) InLink then 1 else 0)) 24
       (λ k a b. eq-eqb _ _ (sym (children-many k a) ∙ f k a b ∙ one-number (taskAt s k .place) InLink))
 
-  pub links-of : linked s ≡ true → (p : ℕ) → 1 ≤ p → p ≤ 24 → children (s .tasks) p ≡ one (taskAt s p .place) InLink
+  pub links-of : linked s ≡ true → (p : ℕ) → 1 ≤ p → p ≤ taskBlocks → children (s .tasks) p ≡ one (taskAt s p .place) InLink
   unfolding linked
   links-of e p a b =
       children-many p a
-      ∙ eqb-true _ _ (all-to (λ k. eqb (howMany (λ c. eqb (taskAt s c .parent) k) (oneTo 24)) (if eqb (taskAt s k .place) InLink then 1 else 0)) 24 e p a b)
+      ∙ eqb-true _ _ (all-to (λ k. eqb (howMany (λ c. eqb (taskAt s c .parent) k) (oneTo taskBlocks)) (if eqb (taskAt s k .place) InLink then 1 else 0)) 24 e p a b)
       ∙ sym (one-number (taskAt s p .place) InLink)

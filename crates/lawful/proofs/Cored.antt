@@ -16,7 +16,7 @@ use Rattle.image.specs.declared.Directory.{Directory}
 use Rattle.image.specs.Directory.{noEntry}
 use Rattle.tables.specs.declared.Task.{Task}
 use Rattle.tables.specs.State.{State, timeQueue, withPool, withTask, taskAt, poolAt, queue, levelOf, unitsOf}
-use Rattle.tables.specs.Blocks.{Free, noTask, withCore}
+use Rattle.tables.specs.Blocks.{Free, noTask, withCore, taskBlocks}
 use Rattle.pools.specs.Pools.{run, startOf}
 use Rattle.pools.specs.Runs.{FreeRun}
 use Rattle.pools.proofs.Units.{free-inside}
@@ -68,7 +68,7 @@ module _ (s : State) (k c a level x : ℕ) where
   unfolding placeOf
   core-place h y = ap (λ (i : ℕ). cond (y among h) Hand i) (kept (λ t. t .place) refl y)
 
-  module _ {h : List ℕ} {e : ℕ} (g : Shape s h e) (some : 1 ≤ k) (low : k ≤ 24) (best : 1 ≤ level) (f : Fields (s .directory) (placeOf s h k) recored)
+  module _ {h : List ℕ} {e : ℕ} (g : Shape s h e) (some : 1 ≤ k) (low : k ≤ taskBlocks) (best : 1 ≤ level) (f : Fields (s .directory) (placeOf s h k) recored)
       (r : Core (s .directory) (set (s .tasks) k recored) (set (s .pools) level x)) where
     pub core-same : taskAt coring k ≡ recored
     core-same = getD-set-same (s .tasks) k recored noTask (omega (arith, g .sizes .tasks))
@@ -132,7 +132,7 @@ module _ (d : Directory) (l : List Task) (pools : List ℕ) (k : ℕ) (y : Task)
       }
 
 -- ---- Granting.
-module _ {s : State} {h : List ℕ} {e k : ℕ} (g : Shape s h e) (some : 1 ≤ k) (low : k ≤ 24) (hand : placeOf s h k ≡ Hand) where
+module _ {s : State} {h : List ℕ} {e k : ℕ} (g : Shape s h e) (some : 1 ≤ k) (low : k ≤ taskBlocks) (hand : placeOf s h k ≡ Hand) where
   used : placeOf s h k ≢ Free
   used z = omega (arith, hand, z)
 
@@ -167,7 +167,7 @@ module _ {s : State} {h : List ℕ} {e k : ℕ} (g : Shape s h e) (some : 1 ≤ 
         )))
 
 -- ---- Giving back.
-module _ {s : State} {h : List ℕ} {e k : ℕ} (g : Shape s h e) (some : 1 ≤ k) (low : k ≤ 24) (o : taskAt s k .core ≡ 1) where
+module _ {s : State} {h : List ℕ} {e k : ℕ} (g : Shape s h e) (some : 1 ≤ k) (low : k ≤ taskBlocks) (o : taskAt s k .core ≡ 1) where
   abbrev pub given-back : State
   given-back = coring s k 2 0 (levelOf s k) (poolAt s (levelOf s k) - run (taskAt s k .start) (unitsOf s k))
 

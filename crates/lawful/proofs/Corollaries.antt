@@ -10,12 +10,12 @@ use native.Mathlib.Nat.{le-of-suc-le-suc, not-suc-le-zero}
 use lib.ListN.{length, getD}
 use lib.Dec.{eqb}
 use borrow.Author.Tests.{eqb-true}
-use Rattle.threads.specs.Threads.{count, counts, Apart}
+use Rattle.threads.specs.Threads.{count, counts, Apart, BLOCKS}
 use Rattle.words.specs.Words.{if_then_else_, oneTo, howMany, has}
 use Rattle.words.proofs.Places.{under-or-from}
 use Rattle.tables.specs.declared.Task.{Task}
 use Rattle.tables.specs.State.{State, node, taskAt, requestAt, poolAt, queue, levelOf}
-use Rattle.tables.specs.Blocks.{noTask}
+use Rattle.tables.specs.Blocks.{noTask, taskBlocks}
 use Rattle.meaning.specs.Rules.{queueFor, holdsUnit}
 use Rattle.lawful.specs.Shape.{placeOf, Shape, holding}
 use Rattle.words.specs.Counting.{sum, one}
@@ -44,7 +44,7 @@ outside {s} g y z =
     counts-none y (s .queues) (λ q l. ⊎-elim (λ i. ap (λ (x : ℕ). count x (queue s q)) i ∙ g .none q) (λ i. g .beyond q y i) z)
 
 -- a task block stands in the queue of its place, a request block in the channel queue or in none
-inside-once : {s : State} {h : List ℕ} {e : ℕ} → Shape s h e → (y : ℕ) → 1 ≤ y → y ≤ 40 → counts y (s .queues) ≤ 1
+inside-once : {s : State} {h : List ℕ} {e : ℕ} → Shape s h e → (y : ℕ) → 1 ≤ y → y ≤ BLOCKS → counts y (s .queues) ≤ 1
 inside-once {s} {h} g y a b =
     ⊎-elim
     (λ c.
@@ -78,12 +78,12 @@ sum-two f (t ∷ l) (suc i) (suc j) a b = omega (arith, sum-two f l i j (le-of-s
 
 module _ {s : State} {h : List ℕ} {e : ℕ} (g : Shape s h e) where
   -- each unit of a level is in one run where it is granted, and in none where it is free
-  pub units-make : (level u : ℕ) → 1 ≤ level → level ≤ 3 → howMany (holdsUnit s level u) (oneTo 24) ≡ (if has (poolAt s level) u then 1 else 0)
+  pub units-make : (level u : ℕ) → 1 ≤ level → level ≤ 3 → howMany (holdsUnit s level u) (oneTo taskBlocks) ≡ (if has (poolAt s level) u then 1 else 0)
   units-make level u lo hi =
       sym (units-held s (g .sizes .tasks) (g .blank .block) level u) ∙ g .core .units level u lo hi ∙ bit-of (poolAt s level) u refl
 
   -- who holds a unit of a level is a task of it
-  of-level : (level u k : ℕ) → 1 ≤ k → k ≤ 24 → holdsUnit s level u k ≡ true → (1 ≤ level) × (level ≤ 3)
+  of-level : (level u k : ℕ) → 1 ≤ k → k ≤ taskBlocks → holdsUnit s level u k ≡ true → (1 ≤ level) × (level ≤ 3)
   unfolding holdsUnit
   of-level level u k a b o =
       let c = both (eqb (taskAt s k .core) 1 && eqb (levelOf s k) level) _ o .0 in
@@ -92,7 +92,7 @@ module _ {s : State} {h : List ℕ} {e : ℕ} (g : Shape s h e) where
       let z = eqb-true (levelOf s k) level (own .1) in
       (omega (arith, z, level-best g a b used), omega (arith, z, level-worst g a b used))
 
-  one-holds : (i j level u : ℕ) → 1 ≤ i → i < j → j ≤ 24 → holdsUnit s level u i ≡ true → holdsUnit s level u j ≡ true → ⊥
+  one-holds : (i j level u : ℕ) → 1 ≤ i → i < j → j ≤ taskBlocks → holdsUnit s level u i ≡ true → holdsUnit s level u j ≡ true → ⊥
   one-holds i j level u some l low a b =
       let v = of-level level u i some (omega arith) a in
       omega (
@@ -104,7 +104,7 @@ module _ {s : State} {h : List ℕ} {e : ℕ} (g : Shape s h e) where
         bit-le (poolAt s level) u,
       )
 
-  pub runs-apart : (i j level u : ℕ) → 1 ≤ i → i ≤ 24 → 1 ≤ j → j ≤ 24 → holdsUnit s level u i ≡ true → holdsUnit s level u j ≡ true → i ≡ j
+  pub runs-apart : (i j level u : ℕ) → 1 ≤ i → i ≤ taskBlocks → 1 ≤ j → j ≤ taskBlocks → holdsUnit s level u i ≡ true → holdsUnit s level u j ≡ true → i ≡ j
   runs-apart i j level u a b c d p q =
       ⊎-elim (λ (l : i < j). absurd (one-holds i j level u a l d p q))
       (λ (l : j ≤ i). ⊎-elim (λ (m : j < i). absurd (one-holds j i level u c m b q p)) (λ (m : i ≤ j). omega arith) (under-or-from j i))

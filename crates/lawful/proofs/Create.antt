@@ -10,13 +10,13 @@ use lib.ListN.{set, length-set}
 use lib.Seq.{getD-set-same, getD-set-other}
 use lib.Dec.{eqb}
 use borrow.Author.Tests.{eq-eqb, ne-eqb}
-use Rattle.threads.specs.Threads.{count}
+use Rattle.threads.specs.Threads.{count, QUEUES}
 use Rattle.words.proofs.Truth.{tested}
 use Rattle.words.specs.Words.{_among_, dropping}
 use Rattle.words.proofs.Changes.{dropping-low}
 use Rattle.tables.specs.declared.Task.{Task}
 use Rattle.tables.specs.State.{State, timeQueue, withFreeTasks, withTask, taskAt, queue, levelOf}
-use Rattle.tables.specs.Blocks.{Free, Running, InLink, noTask, newTask}
+use Rattle.tables.specs.Blocks.{Free, Running, InLink, noTask, newTask, taskBlocks}
 use Rattle.meaning.specs.Services.{created}
 use Rattle.meaning.specs.Rules.{queueFor}
 use Rattle.lawful.specs.Shape.{Hand, placeOf, Stands, children, Shape, InHand}
@@ -31,8 +31,8 @@ use Rattle.lawful.proofs.Cored.{holding-none}
 use Rattle.lawful.proofs.Members.{not-in}
 use Rattle.words.proofs.Free.{dropped-same, dropped-other}
 
-module _ {s : State} {h : List ℕ} (g : Shape s h 0) (k m p : ℕ) (some : 1 ≤ k) (low : k ≤ 24) (freeTasks : bit (s .freeTasks) k ≡ 1)
-    (known : m < s .directory .modules) (parent : p ≤ 24) (apart : p ≢ k) where
+module _ {s : State} {h : List ℕ} (g : Shape s h 0) (k m p : ℕ) (some : 1 ≤ k) (low : k ≤ taskBlocks) (freeTasks : bit (s .freeTasks) k ≡ 1)
+    (known : m < s .directory .modules) (parent : p ≤ taskBlocks) (apart : p ≢ k) where
   abbrev fresh : Task
   fresh = newTask m p
 
@@ -48,7 +48,7 @@ module _ {s : State} {h : List ℕ} (g : Shape s h 0) (k m p : ℕ) (some : 1 �
   zero : taskAt s k ≡ noTask
   zero = was .fields .free was-free
 
-  no-queue : (q : ℕ) → q < 9 → count k (queue s q) ≡ 0
+  no-queue : (q : ℕ) → q < QUEUES → count k (queue s q) ≡ 0
   unfolding queueFor
   no-queue q l = was .queued q l ∙ ap (λ (x : ℕ). one (queueFor x (levelOf s k)) q) was-free ∙ one-other 9 q (λ z. omega (arith, z, l))
 
@@ -65,7 +65,7 @@ module _ {s : State} {h : List ℕ} (g : Shape s h 0) (k m p : ℕ) (some : 1 �
   childless : children (s .tasks) k ≡ 0
   childless = g .links k some low ∙ omega (arith, ap (λ (x : ℕ). one x InLink) was-free, one-other Free InLink (λ z. omega (arith, z)), one-other k 0 (λ z. omega (arith, z)))
 
-  not-parent : (y : ℕ) → y ≤ 24 → taskAt s y .parent ≢ k
+  not-parent : (y : ℕ) → y ≤ taskBlocks → taskAt s y .parent ≢ k
   not-parent y b z =
       omega (arith, childless, sum-le (λ t. one (t .parent) k) (s .tasks) y noTask (omega (arith, g .sizes .tasks)), one-same (taskAt s y .parent) k z)
 
@@ -92,7 +92,7 @@ module _ {s : State} {h : List ℕ} (g : Shape s h 0) (k m p : ℕ) (some : 1 �
   unfolding rank
   rank-same = rw (eq-eqb k k refl)
 
-  above : (y : ℕ) → y ≤ 24 → taskAt made y .parent ≢ 0 → rank (taskAt made y .parent) < rank y
+  above : (y : ℕ) → y ≤ taskBlocks → taskAt made y .parent ≢ 0 → rank (taskAt made y .parent) < rank y
   above y b n =
       ⊎-elim
       (λ c. rw (c .1, same) (omega (arith, rank-same, rank-other p apart)))
@@ -100,7 +100,7 @@ module _ {s : State} {h : List ℕ} (g : Shape s h 0) (k m p : ℕ) (some : 1 �
       rw z (omega (arith, g .ranked .above y b (λ i. n (ap (λ (t : Task). t .parent) z ∙ i)), rank-other y (c .1), rank-other (taskAt s y .parent) (not-parent y b))))
       (tested y k)
 
-  links : (y : ℕ) → 1 ≤ y → y ≤ 24 → children (set (s .tasks) k fresh) y ≡ one (placeOf made (k ∷ h) y) InLink + one y p
+  links : (y : ℕ) → 1 ≤ y → y ≤ taskBlocks → children (set (s .tasks) k fresh) y ≡ one (placeOf made (k ∷ h) y) InLink + one y p
   links y a b =
       let c = sum-set (λ t. one (t .parent) y) (s .tasks) k fresh noTask (omega (arith, g .sizes .tasks)) in
       let d = one-other (taskAt s k .parent) y (λ z. omega (arith, z, ap (λ (t : Task). t .parent) zero, a)) in

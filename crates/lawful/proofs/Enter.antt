@@ -7,7 +7,7 @@ use Prim.Native.Nat.{ℕ, _+_, _≤_, _<_}
 use native.Mathlib.Omega.{arith}
 use lib.ListN.{set, getD}
 use lib.Seq.{getD-set-other}
-use Rattle.threads.specs.Threads.{count}
+use Rattle.threads.specs.Threads.{count, QUEUES}
 use Rattle.words.proofs.Truth.{tested}
 use Rattle.words.specs.Words.{upBy}
 use Rattle.tables.specs.declared.Task.{Task}
@@ -27,7 +27,7 @@ module _ {s : State} {k : ℕ} {h : List ℕ} {e : ℕ} (i : InHand s k h e) whe
   hand-stands = rw (held-place s h k) at (i .shape .tasks k (i .some) (i .low))
 
   -- it is in no queue, and does not run
-  pub hand-count : (q : ℕ) → q < 9 → count k (queue s q) ≡ 0
+  pub hand-count : (q : ℕ) → q < QUEUES → count k (queue s q) ≡ 0
   unfolding queueFor
   hand-count q l = hand-stands .queued q l ∙ one-other 9 q (λ z. omega (arith, z, l))
 

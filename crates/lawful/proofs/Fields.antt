@@ -8,7 +8,7 @@ use lib.Bits.{bitAnd}
 use Rattle.words.specs.Words.{size}
 use Rattle.image.specs.declared.Directory.{Directory}
 use Rattle.tables.specs.declared.Task.{Task}
-use Rattle.tables.specs.Blocks.{Free, Running, Ready, InCore, InEvent, InTime, InLink, InCheck, Ending, noTask, newTask, moving, awaitingEvents, awaitingTime, awaitingRequest, withParent, withCore}
+use Rattle.tables.specs.Blocks.{Free, Running, Ready, InCore, InEvent, InTime, InLink, InCheck, Ending, noTask, newTask, moving, awaitingEvents, awaitingTime, awaitingRequest, withParent, withCore, taskBlocks}
 use Rattle.lawful.specs.Shape.{Hand, moduleOf, cleared, Fields}
 
 -- x is the task t, in another place: it keeps what every move keeps
@@ -160,7 +160,7 @@ module _ {d : Directory} {p : ℕ} {t : Task} (f : Fields d p t) where
       }
 
 -- ---- A block with no core and no condition, of the module m and the parent q: it may be free, where it is zero, or in hand.
-pub new-fields : (d : Directory) {p m q : ℕ} → (p ≡ Free) ⊎ (p ≡ Hand) → (p ≡ Free → newTask m q ≡ noTask) → (p ≢ Free → m < d .modules) → q ≤ 24 → Fields d p (newTask m q)
+pub new-fields : (d : Directory) {p m q : ℕ} → (p ≡ Free) ⊎ (p ≡ Hand) → (p ≡ Free → newTask m q ≡ noTask) → (p ≢ Free → m < d .modules) → q ≤ taskBlocks → Fields d p (newTask m q)
 new-fields d {p} {m} {q} either zero known parent =
     let other : (n : ℕ) → 1 ≤ n → n ≤ 8 → p ≢ n = λ n a b z. ⊎-elim (λ e. omega (arith, e, z)) (λ e. omega (arith, e, z)) either in
     record {

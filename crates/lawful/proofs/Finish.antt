@@ -11,7 +11,7 @@ use Rattle.words.proofs.Truth.{tested}
 use Rattle.words.specs.Words.{if_then_else_, oneTo}
 use Rattle.tables.specs.declared.Task.{Task}
 use Rattle.tables.specs.State.{State, coreQueue, taskAt, requestAt, queue, levelOf, unitsOf, withFreeTasks}
-use Rattle.tables.specs.Blocks.{Running, InLink, Ending, noTask, moving}
+use Rattle.tables.specs.Blocks.{Running, InLink, Ending, noTask, moving, taskBlocks, requestBlocks}
 use Rattle.calls.specs.declared.Call.{Call}
 use Rattle.meaning.specs.Ready.{placed}
 use Rattle.meaning.specs.Finish.{freedTask, givenBack, pending, freedDone, parentReady, finished, ended}
@@ -40,7 +40,7 @@ use Rattle.lawful.proofs.Link.{park, park-rest}
 use Rattle.lawful.proofs.Calls.{settled, rest-stopped}
 
 -- ---- A block that is in LINK is taken into the hand, and is then excused for having a child.
-module _ {s : State} {h : List ℕ} (g : Shape s h 0) (p : ℕ) (some : 1 ≤ p) (low : p ≤ 24) (l : placeOf s h p ≡ InLink) where
+module _ {s : State} {h : List ℕ} (g : Shape s h 0) (p : ℕ) (some : 1 ≤ p) (low : p ≤ taskBlocks) (l : placeOf s h p ≡ InLink) where
   pub grab : InHand s p h p
   unfolding queueFor
   grab =
@@ -67,8 +67,8 @@ module _ {s : State} {h : List ℕ} (g : Shape s h 0) (p : ℕ) (some : 1 ≤ p)
       }
 
 -- the parent of a used block is in LINK, and is another
-module _ {s : State} {h : List ℕ} (g : Shape s h 0) (k : ℕ) (low : k ≤ 24) (n : taskAt s k .parent ≢ 0) (some : 1 ≤ k) where
-  pub parent-low : taskAt s k .parent ≤ 24
+module _ {s : State} {h : List ℕ} (g : Shape s h 0) (k : ℕ) (low : k ≤ taskBlocks) (n : taskAt s k .parent ≢ 0) (some : 1 ≤ k) where
+  pub parent-low : taskAt s k .parent ≤ taskBlocks
   parent-low = g .tasks k some low .fields .parent
 
   pub parent-links : placeOf s h (taskAt s k .parent) ≡ InLink
@@ -127,7 +127,7 @@ module _ {s : State} {k : ℕ} {h : List ℕ} {m : List ℕ} (i : InHand s k h 0
   abbrev b : State
   b = freedDone a k
 
-  cleared : ClearsAll a b k (oneTo 16) (k ∷ h) 0 m
+  cleared : ClearsAll a b k (oneTo requestBlocks) (k ∷ h) 0 m
   cleared = done-cleared (i .some) (back .shape) (back .rest) (λ j p. n j (rw (frame-requests (back-frame s k)) at p))
 
   b-task : (y : ℕ) → taskAt b y ≡ taskAt a y
@@ -139,7 +139,7 @@ module _ {s : State} {k : ℕ} {h : List ℕ} {m : List ℕ} (i : InHand s k h 0
   pub coreless : taskAt b k .core ≢ 1
   coreless z = back .core (ap (λ (t : Task). t .core) (sym (b-task k)) ∙ z)
 
-  pub ownerless : (r : ℕ) → 1 ≤ r → r ≤ 16 → 1 ≤ requestAt b r .place → requestAt b r .owner ≢ k
+  pub ownerless : (r : ℕ) → 1 ≤ r → r ≤ requestBlocks → 1 ≤ requestAt b r .place → requestAt b r .owner ≢ k
   ownerless r lo hi u z =
       let w = cleared .clears in
       let d = cleared .all r (one-to 16 r lo hi) z in
@@ -155,7 +155,7 @@ module _ {s : State} {k : ℕ} {h : List ℕ} {m : List ℕ} (i : InHand s k h 0
   last {c} {e} g r o q l f v x =
       let j : InHand c k h e = record { some = i .some; low = i .low; out = i .out; shape = g } in
       let cl : taskAt c k .core ≢ 1 = λ z. coreless (ap (λ (t : Task). t .core) (sym o) ∙ z) in
-      let ol : (r : ℕ) → 1 ≤ r → r ≤ 16 → 1 ≤ requestAt c r .place → requestAt c r .owner ≢ k = λ r. rw q (ownerless r) in
+      let ol : (r : ℕ) → 1 ≤ r → r ≤ requestBlocks → 1 ≤ requestAt c r .place → requestAt c r .owner ≢ k = λ r. rw q (ownerless r) in
       let lk = ap (λ (t : Task). t .parent) o ∙ l in
       record {
         shape = free-task j cl ol lk;

@@ -12,7 +12,7 @@ use Rattle.words.specs.Words.{_among_, adding}
 use Rattle.words.proofs.Changes.{adding-low}
 use Rattle.tables.specs.declared.Task.{Task}
 use Rattle.tables.specs.State.{State, withFreeTasks, withTask, taskAt, requestAt}
-use Rattle.tables.specs.Blocks.{Free, Running, InLink, noTask}
+use Rattle.tables.specs.Blocks.{Free, Running, InLink, noTask, taskBlocks, requestBlocks}
 use Rattle.meaning.specs.Finish.{freedTask}
 use Rattle.meaning.specs.Rules.{queueFor}
 use Rattle.lawful.specs.Shape.{Hand, placeOf, Stands, children, Shape, InHand}
@@ -29,7 +29,7 @@ use Rattle.lawful.proofs.Enter.{hand-count, hand-runs, hand-timed}
 use Rattle.lawful.proofs.Resting.{rest-alone}
 
 module _ {s : State} {k : ℕ} {h : List ℕ} {e : ℕ} (i : InHand s k h e) (coreless : taskAt s k .core ≢ 1)
-    (ownerless : (r : ℕ) → 1 ≤ r → r ≤ 16 → 1 ≤ requestAt s r .place → requestAt s r .owner ≢ k) (link : taskAt s k .parent ≡ e) where
+    (ownerless : (r : ℕ) → 1 ≤ r → r ≤ requestBlocks → 1 ≤ requestAt s r .place → requestAt s r .owner ≢ k) (link : taskAt s k .parent ≡ e) where
   abbrev freed : State
   freed = withTask (withFreeTasks s (adding (s .freeTasks) k)) k noTask
 
@@ -61,7 +61,7 @@ module _ {s : State} {k : ℕ} {h : List ℕ} {e : ℕ} (i : InHand s k h e) (co
         ends = λ z. absurd (omega (arith, z));
       })
 
-  links : (y : ℕ) → 1 ≤ y → y ≤ 24 → children (set (s .tasks) k noTask) y ≡ one (placeOf freed h y) InLink + one y 0
+  links : (y : ℕ) → 1 ≤ y → y ≤ taskBlocks → children (set (s .tasks) k noTask) y ≡ one (placeOf freed h y) InLink + one y 0
   links y a b =
       let c = sum-set (λ t. one (t .parent) y) (s .tasks) k noTask noTask (omega (arith, g .sizes .tasks, i .low)) in
       let d = one-other 0 y (λ z. omega (arith, z, a)) in

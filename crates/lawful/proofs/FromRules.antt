@@ -9,13 +9,13 @@ use native.Mathlib.Omega.{arith}
 use lib.ListN.{length}
 use lib.Dec.{eqb}
 use borrow.Author.Tests.{eqb-true, eq-eqb, leb-true, ltb-true, not-true, not-false}
-use Rattle.threads.specs.Threads.{count, Apart}
+use Rattle.threads.specs.Threads.{count, Apart, BLOCKS, QUEUES}
 use Rattle.words.proofs.Truth.{tested, both, implied}
 use Rattle.words.specs.Words.{_implies_, upBy}
 use Rattle.words.proofs.Places.{under-or-from}
 use Rattle.tables.specs.declared.Request.{Request}
 use Rattle.tables.specs.declared.Task.{Task}
-use Rattle.tables.specs.Blocks.{Free, InLink, InCheck, Ending, noTask, noRequest}
+use Rattle.tables.specs.Blocks.{Free, InLink, InCheck, Ending, noTask, noRequest, taskBlocks, requestBlocks}
 use Rattle.tables.specs.State.{State, eventQueue, timeQueue, channelQueue, taskAt, requestAt, poolAt, queue, levelOf, unitsOf}
 use Rattle.meaning.specs.Conditions.{undefinedIn}
 use Rattle.meaning.specs.Finish.{pendingOf, pending}
@@ -78,12 +78,12 @@ module _ (s : State) (z : Sizes s) (low : (level : ℕ) → poolAt s level < 2 ^
       }
 
   -- ---- One task block.
-  module _ (k : ℕ) (a : 1 ≤ k) (b : k ≤ 24) where
+  module _ (k : ℕ) (a : 1 ≤ k) (b : k ≤ taskBlocks) where
     placed : taskStands s k ≡ true
     unfolding tasksInPlace
     placed = all-to (taskStands s) 24 (r .tasksInPlace) k a b
 
-    in-queue : (q : ℕ) → q < 9 → count k (queue s q) ≡ one (queueFor (taskAt s k .place) (levelOf s k)) q
+    in-queue : (q : ℕ) → q < QUEUES → count k (queue s q) ≡ one (queueFor (taskAt s k .place) (levelOf s k)) q
     in-queue = task-placed s k u placed .0 .only
 
     fields : Fields (s .directory) (taskAt s k .place) (taskAt s k)
@@ -93,7 +93,7 @@ module _ (s : State) (z : Sizes s) (low : (level : ℕ) → poolAt s level < 2 ^
         (λ i. passes-of s (r .eventsPass) k
         (let w = rw i at (in-queue eventQueue (omega arith)) in omega (arith, w, one-same 0 0 refl)))
 
-    request-low : taskAt s k .request ≤ 16
+    request-low : taskAt s k .request ≤ requestBlocks
     request-low = leb-true _ _ (task-range (s .directory .modules) (unitsOf s k) (taskAt s k) (all-to (taskRange s) 24 (range .tasks) k a b) .request)
 
     -- "CHECK waits for an own pending request", which is no block 0
@@ -122,7 +122,7 @@ module _ (s : State) (z : Sizes s) (low : (level : ℕ) → poolAt s level < 2 ^
         })
 
   -- ---- One request block.
-  carried : (q : ℕ) → 1 ≤ q → q ≤ 16 → Carried s [] q
+  carried : (q : ℕ) → 1 ≤ q → q ≤ requestBlocks → Carried s [] q
   unfolding requestsInPlace owned
   carried q a b =
       carried-of s q no-task u (all-to (requestRange s) 16 (range .requests) q a b) (all-to (requestClear s) 16 (clear .requests) q a b)
@@ -133,7 +133,7 @@ module _ (s : State) (z : Sizes s) (low : (level : ℕ) → poolAt s level < 2 ^
       ⊎-elim (λ a. let i : k ≡ 0 = omega (arith, a) in absurd (omega (arith, c, ap (λ (x : ℕ). taskAt s x .core) i, ap (λ (t : Task). t .core) no-task)))
       (λ a. fields k a (omega (arith, l, z .tasks)) .inside c) (under-or-from k 1)
 
-  nowhere : (y : ℕ) → ((1 ≤ y) × (y ≤ 40) → ⊥) → (q : ℕ) → count y (queue s q) ≡ 0
+  nowhere : (y : ℕ) → ((1 ≤ y) × (y ≤ BLOCKS) → ⊥) → (q : ℕ) → count y (queue s q) ≡ 0
   nowhere y f q = ⊎-elim (λ i. omega (arith, i)) (λ i. absurd (f (u .inside y (omega (arith, i, in-some y (s .queues) q))))) (under-or-from (count y (queue s q)) 1)
 
   shape : Shape s [] 0

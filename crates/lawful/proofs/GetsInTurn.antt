@@ -9,13 +9,13 @@ use lib.ListN.{length, set, getD}
 use lib.Seq.{getD-set-other}
 use lib.Dec.{eqb, ltb}
 use borrow.Author.Tests.{ltb-true}
-use Rattle.threads.specs.Threads.{without}
+use Rattle.threads.specs.Threads.{without, QUEUES}
 use Rattle.threads.proofs.Lists.{count-nil, without-at}
 use Rattle.words.proofs.Truth.{tested}
 use Rattle.words.specs.Words.{if_then_else_, isEmpty}
 use Rattle.image.specs.Directory.{noEntry}
 use Rattle.tables.specs.declared.Task.{Task}
-use Rattle.tables.specs.Blocks.{Ready, InCore, HoldsRun, noTask, moving, withCore}
+use Rattle.tables.specs.Blocks.{Ready, InCore, HoldsRun, noTask, moving, withCore, taskBlocks}
 use Rattle.tables.specs.State.{State, coreQueue, taskAt, queue, levelOf, leaving}
 use Rattle.meaning.specs.Ready.{startFor, fits, needsCore, givenRun, readied, awaitsCore, madeReady, seated, serving, served}
 use Rattle.meaning.specs.Finish.{givenBack}
@@ -83,7 +83,7 @@ module _ (s : State) (k : ℕ) where
       }
 
 -- the first that waits leaves its queue, and is given its run
-module _ (s : State) (k level : ℕ) (l : List ℕ) (nine : length (s .queues) ≡ 9) (lo : 1 ≤ level) (hi : level ≤ 3)
+module _ (s : State) (k level : ℕ) (l : List ℕ) (nine : length (s .queues) ≡ QUEUES) (lo : 1 ≤ level) (hi : level ≤ 3)
     (q : queue s (coreQueue level) ≡ k ∷ l) (o : levelOf s k ≡ level) where
   abbrev left : State
   left = leaving s (coreQueue level) k
@@ -192,7 +192,7 @@ module _ {h : List ℕ} {e : ℕ} {level : ℕ} {m : List ℕ} (lo : 1 ≤ level
   served-turns s g r = serving-turns (queue s (coreQueue level)) s g r refl
 
 -- ---- Core is given back, and that core queue served.
-module _ {s : State} {h : List ℕ} {e : ℕ} {m : List ℕ} (g : Shape s h e) (r : Rest s m) (k : ℕ) (some : 1 ≤ k) (low : k ≤ 24) where
+module _ {s : State} {h : List ℕ} {e : ℕ} {m : List ℕ} (g : Shape s h e) (r : Rest s m) (k : ℕ) (some : 1 ≤ k) (low : k ≤ taskBlocks) where
   pub back-turns : Turns s (givenBack s k)
   unfolding givenBack
   back-turns = ⊎-elim (λ z. rw (z .0) (gives (z .1))) (λ z. rw (z .0) (stays s)) (tested (taskAt s k .core) 1)

@@ -10,7 +10,7 @@ use Rattle.words.proofs.Truth.{tested}
 use Rattle.words.proofs.Places.{under-or-from}
 use Rattle.tables.specs.declared.Task.{Task}
 use Rattle.tables.specs.State.{State, coreQueue, taskAt, poolAt, queue, levelOf, unitsOf}
-use Rattle.tables.specs.Blocks.{noTask}
+use Rattle.tables.specs.Blocks.{noTask, taskBlocks}
 use Rattle.calls.specs.declared.Call.{Call}
 use Rattle.pools.specs.Pools.{run}
 use Rattle.meaning.specs.Conditions.{enough}
@@ -37,7 +37,7 @@ pub record GivesBack (s′ : State) (k : ℕ) (h : List ℕ) (e : ℕ) (m : List
   pub rest : Rest s′ m
   pub core : taskAt s′ k .core ≢ 1
 
-module _ {s : State} {h : List ℕ} {e : ℕ} {m : List ℕ} (g : Shape s h e) (r : Rest s m) (k : ℕ) (some : 1 ≤ k) (low : k ≤ 24) where
+module _ {s : State} {h : List ℕ} {e : ℕ} {m : List ℕ} (g : Shape s h e) (r : Rest s m) (k : ℕ) (some : 1 ≤ k) (low : k ≤ taskBlocks) where
   module _ (o : taskAt s k .core ≡ 1) where
     abbrev pub freed : State
     freed = coring s k 2 0 (levelOf s k) (poolAt s (levelOf s k) - run (taskAt s k .start) (unitsOf s k))

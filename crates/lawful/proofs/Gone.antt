@@ -11,7 +11,7 @@ use Rattle.threads.specs.Threads.{count}
 use Rattle.words.proofs.Truth.{tested}
 use Rattle.words.specs.Words.{if_then_else_}
 use Rattle.tables.specs.declared.Task.{Task}
-use Rattle.tables.specs.Blocks.{Free, Ending, noTask}
+use Rattle.tables.specs.Blocks.{Free, Ending, noTask, taskBlocks}
 use Rattle.tables.specs.State.{State, coreQueue, withRunning, taskAt, queue, levelOf}
 use Rattle.calls.specs.declared.Call.{Call}
 use Rattle.meaning.specs.Ready.{placed}
@@ -69,7 +69,7 @@ taken-gone s k = go (pending (unlinked s k) k)
     go false = freed-gone (unlinked s k) k
 
 -- ---- A task that was taken before, while another is.
-module _ {n k : ℕ} {s : State} (a : Aborting (suc n) k s) (y : ℕ) (lo : 1 ≤ y) (hi : y ≤ 24) (d : y ≢ k) (g : Gone s y) where
+module _ {n k : ℕ} {s : State} (a : Aborting (suc n) k s) (y : ℕ) (lo : 1 ≤ y) (hi : y ≤ taskBlocks) (d : y ≢ k) (g : Gone s y) where
   -- it is in no core queue
   no-queue : (level : ℕ) → 1 ≤ level → level ≤ 3 → count y (queue s (coreQueue level)) ≡ 0
   no-queue level l h =
@@ -101,7 +101,7 @@ rest-taken : {n k : ℕ} {s : State} {y : ℕ} (a : Aborting (suc n) k s) → (t
 rest-taken {n} {k} {s} a f g =
     rw (takes-first n k s (some a)) (⊎-elim (λ z. rw (z .1, aborted-none n (taken k s)) g) (λ z. f (z .1)) (tested (taskAt s k .parent) 0))
 
-stays-gone : (n k : ℕ) (s : State) → Aborting n k s → (y : ℕ) → 1 ≤ y → y ≤ 24 → ((i : ℕ) → upward s i k ≢ y) → Gone s y → Gone (aborted n k s) y
+stays-gone : (n k : ℕ) (s : State) → Aborting n k s → (y : ℕ) → 1 ≤ y → y ≤ taskBlocks → ((i : ℕ) → upward s i k ≢ y) → Gone s y → Gone (aborted n k s) y
 stays-gone zero k s a y lo hi f g = absurd (omega (arith, sym (upward-zero s k) ∙ a .chain, a .hand .some))
 stays-gone (suc n) k s a y lo hi f g =
     let g′ = kept-gone a y lo hi (λ e. f 0 (upward-zero s k ∙ sym e)) g in

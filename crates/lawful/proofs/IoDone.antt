@@ -15,7 +15,7 @@ use Rattle.words.proofs.Truth.{tested}
 use Rattle.words.specs.Words.{if_then_else_, upBy}
 use Rattle.tables.specs.declared.Request.{Request}
 use Rattle.tables.specs.State.{State, eventQueue, channelQueue, requestOf, withChannel, taskAt, requestAt, queue, levelOf}
-use Rattle.tables.specs.Blocks.{Running, InLink, InCheck, Ending, Queued, OnChannel, Done, request, noRequest}
+use Rattle.tables.specs.Blocks.{Running, InLink, InCheck, Ending, Queued, OnChannel, Done, request, noRequest, taskBlocks}
 use Rattle.calls.specs.declared.Call.{Call}
 use Rattle.meaning.specs.Ready.{madeReady}
 use Rattle.meaning.specs.Finish.{freedRequest, pending, finished}
@@ -38,7 +38,7 @@ use Rattle.lawful.proofs.Channel.{rest-asking, starts}
 use Rattle.lawful.proofs.Calls.{settled}
 
 -- ---- A task in CHECK, or ending, is taken into the hand: nothing changes.
-module _ {s : State} {h : List ℕ} {e : ℕ} (g : Shape s h e) (k : ℕ) (some : 1 ≤ k) (low : k ≤ 24) (l : (7 ≤ placeOf s h k) × (placeOf s h k ≤ 8)) where
+module _ {s : State} {h : List ℕ} {e : ℕ} (g : Shape s h e) (k : ℕ) (some : 1 ≤ k) (low : k ≤ taskBlocks) (l : (7 ≤ placeOf s h k) × (placeOf s h k ≤ 8)) where
   pub seize : InHand s k h e
   seize =
       let w = g .tasks k some low in
@@ -88,8 +88,8 @@ module _ {s : State} (n : s .channel ≢ 0) where
     owner-kept i = ⊎-elim (λ c. rw (c .1, over-same)) (λ c. rw (getD-set-other (s .requests) (s .channel) i (over s) noRequest (c .1))) (tested i (s .channel))
 
     -- the request leaves the channel, where nobody in CHECK waits for it and who is ending has another
-    leaves : ((y : ℕ) → 1 ≤ y → y ≤ 24 → placeOf s h y ≡ InCheck → taskAt s y .request ≢ (s .channel))
-        → ((y : ℕ) → 1 ≤ y → y ≤ 24 → placeOf s h y ≡ Ending → (i : ℕ) × Pending (set (s .requests) (s .channel) (over s)) y i) → Shape (off s) h e
+    leaves : ((y : ℕ) → 1 ≤ y → y ≤ taskBlocks → placeOf s h y ≡ InCheck → taskAt s y .request ≢ (s .channel))
+        → ((y : ℕ) → 1 ≤ y → y ≤ taskBlocks → placeOf s h y ≡ Ending → (i : ℕ) × Pending (set (s .requests) (s .channel) (over s)) y i) → Shape (off s) h e
     unfolding channelLevel
     leaves f t =
         ask s (s .channel) (over s) g (record {
@@ -164,7 +164,7 @@ resumed {s} g r =
 
 -- ---- The owner of the request on the channel, in CHECK or ending: in hand, with the request's block freed.
 module _ {s : State} (g : Lawful s) (n : s .channel ≢ 0) where
-  pub owner-used : (1 ≤ owner s) × (owner s ≤ 24)
+  pub owner-used : (1 ≤ owner s) × (owner s ≤ taskBlocks)
   owner-used = let w = was n (g .shape) .used (omega (arith, on n (g .shape))) in (w .0, w .1)
 
   owner-hand : (7 ≤ taskAt s (owner s) .place) × (taskAt s (owner s) .place ≤ 8) → InHand s (owner s) [] 0

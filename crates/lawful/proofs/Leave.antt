@@ -4,7 +4,7 @@ use mathlib.Core.Logic.{_≢_, ⊎-elim}
 use mathlib.Core.List.{List}
 use Prim.Native.Nat.{ℕ, _≤_, _<_}
 use native.Mathlib.Omega.{arith}
-use Rattle.threads.specs.Threads.{count, without}
+use Rattle.threads.specs.Threads.{count, without, QUEUES}
 use Rattle.words.proofs.Truth.{tested}
 use Rattle.tables.specs.State.{State, timeQueue, channelQueue, taskAt, queue, levelOf, withRunning, leaving}
 use Rattle.tables.specs.Blocks.{Running, InLink}
@@ -20,7 +20,7 @@ module _ {s : State} {h : List ℕ} {e : ℕ} (g : Shape s h e) (k q : ℕ) (low
   pub leave : InHand (leaving s q k) k h e
   leave =
       let nine = g .sizes .queues in
-      let l : q < 9 = omega arith in
+      let l : q < QUEUES = omega arith in
       let m = without k (queue s q) in
       let p = member-place g k q low c in
       record {

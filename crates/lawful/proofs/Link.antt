@@ -27,6 +27,7 @@ use Rattle.lawful.proofs.Members.{runs-place, runs-stands, queue-place}
 use Rattle.words.proofs.Free.{least-in}
 use Rattle.lawful.proofs.Resting.{rest-alone, rest-made}
 use Rattle.lawful.proofs.Calls.{settled, new, new-rest, rest-stopped}
+use Rattle.threads.specs.Threads.{QUEUES}
 
 -- ---- Parking.
 module _ {s : State} {k : ℕ} {h : List ℕ} {e : ℕ} (i : InHand s k h e) (x : Task) (e′ : ℕ) (kinds : (6 ≤ x .place) × (x .place ≤ 8))
@@ -56,7 +57,7 @@ module _ {s : State} {k : ℕ} {h : List ℕ} {e : ℕ} (i : InHand s k h e) (x 
         channel = refl;
       })
     where
-      parked : (q : ℕ) → q < 9 → one (queueFor (x .place) (levelOf s k)) q ≡ 0
+      parked : (q : ℕ) → q < QUEUES → one (queueFor (x .place) (levelOf s k)) q ≡ 0
       parked q l = one-other _ q (λ z. let b = queue-place (x .place) (levelOf s k) q z l in omega (arith, b, kinds))
 
 pub park-rest : {s : State} {k : ℕ} {h m : List ℕ} {e : ℕ} → InHand s k h e → (x : Task) → Rest s m → Rest (withTask s k x) m

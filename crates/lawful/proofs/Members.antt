@@ -6,18 +6,18 @@ use mathlib.Core.Logic.{_≢_, ⊎-elim}
 use mathlib.Core.List.{List}
 use Prim.Native.Nat.{ℕ, _+_, _-_, _≤_, _<_}
 use native.Mathlib.Omega.{arith}
-use Rattle.threads.specs.Threads.{count}
+use Rattle.threads.specs.Threads.{count, BLOCKS, QUEUES}
 use Rattle.words.proofs.Truth.{tested}
 use Rattle.words.specs.Words.{_among_}
 use Rattle.words.proofs.Places.{under-or-from}
 use Rattle.tables.specs.State.{State, requestAt, channelQueue, queue, levelOf}
-use Rattle.tables.specs.Blocks.{Free, Running, Ready, InCore, InEvent, InTime}
+use Rattle.tables.specs.Blocks.{Free, Running, Ready, InCore, InEvent, InTime, taskBlocks}
 use Rattle.meaning.specs.Rules.{queueFor}
 use Rattle.lawful.specs.Shape.{Hand, placeOf, Stands, Shape}
 use Rattle.words.proofs.Counting.{one-same, one-other, one-eq, one-le}
 
 -- ---- What the directory says of a used block.
-module _ {s : State} {h : List ℕ} {e k : ℕ} (g : Shape s h e) (some : 1 ≤ k) (low : k ≤ 24) (used : placeOf s h k ≢ Free) where
+module _ {s : State} {h : List ℕ} {e k : ℕ} (g : Shape s h e) (some : 1 ≤ k) (low : k ≤ taskBlocks) (used : placeOf s h k ≢ Free) where
   pub level-best : 1 ≤ levelOf s k
   level-best = g .directory .best _ (g .tasks k some low .fields .program used)
 
@@ -25,7 +25,7 @@ module _ {s : State} {h : List ℕ} {e k : ℕ} (g : Shape s h e) (some : 1 ≤ 
   level-worst = g .directory .worst _ (g .tasks k some low .fields .program used)
 
 -- ---- The place of a block, by its queue.
-pub by-queue : {C : Type 0} (p level q : ℕ) → queueFor p level ≡ q → q < 9
+pub by-queue : {C : Type 0} (p level q : ℕ) → queueFor p level ≡ q → q < QUEUES
     → (p ≡ Ready → q ≡ level → C) → (p ≡ InCore → q ≡ level + 3 → C) → (p ≡ InEvent → q ≡ 0 → C) → (p ≡ InTime → q ≡ 7 → C) → C
 unfolding queueFor
 by-queue p level q e l r w v t =
@@ -36,7 +36,7 @@ by-queue p level q e l r w v t =
     absurd (omega (arith, l, rw (a .0, b .0, c .0, d .0) at e)))
     (tested p InTime)) (tested p InEvent)) (tested p InCore)) (tested p Ready)
 
-pub queue-place : (p level q : ℕ) → queueFor p level ≡ q → q < 9 → (2 ≤ p) × (p ≤ 5)
+pub queue-place : (p level q : ℕ) → queueFor p level ≡ q → q < QUEUES → (2 ≤ p) × (p ≤ 5)
 queue-place p level q e l =
     by-queue p level q e l (λ a b. omega (arith, a)) (λ a b. omega (arith, a)) (λ a b. omega (arith, a)) (λ a b. omega (arith, a))
 
@@ -52,7 +52,7 @@ module _ {s : State} {h : List ℕ} {e : ℕ} (g : Shape s h e) (k q : ℕ) (low
   pub member-some : 1 ≤ k
   member-some = ⊎-elim (λ z. let i : k ≡ 0 = omega (arith, z) in absurd (omega (arith, c, g .none q, ap (λ (y : ℕ). count y (queue s q)) i))) (λ z. z) (under-or-from k 1)
 
-  pub member-low : k ≤ 24
+  pub member-low : k ≤ taskBlocks
   member-low =
       ⊎-elim (λ z.
       ⊎-elim
@@ -117,7 +117,7 @@ module _ {s : State} {h : List ℕ} {e : ℕ} (g : Shape s h e) (y : ℕ) (c : 1
       by-queue (placeOf s h y) (levelOf s y) 8 i (omega arith) (λ a d. absurd (omega (arith, d, b))) (λ a d. absurd (omega (arith, d, b))) (λ a d. absurd (omega (arith, d)))
       (λ a d. absurd (omega (arith, d)))) (under-or-from 24 y)
 
-  pub channel-low : y ≤ 40
+  pub channel-low : y ≤ BLOCKS
   channel-low = ⊎-elim (λ z. absurd (omega (arith, c, g .beyond channelQueue y z))) (λ z. z) (under-or-from 40 y)
 
   pub channel-queued : requestAt s (y - 24) .place ≡ 1

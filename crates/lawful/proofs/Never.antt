@@ -18,6 +18,7 @@ use Rattle.meaning.specs.Rules.{rulesHold}
 use Rattle.meaning.specs.Refusals.{callRows, refusals}
 use Rattle.meaning.specs.Step.{stepOf}
 use Rattle.lawful.proofs.Ends.{refused-where, step-outcome}
+use Rattle.threads.specs.Threads.{QUEUES}
 
 -- the numbers of rows; what the first that applies gives is one of them
 numbersOf : List Row → List ℕ
@@ -39,6 +40,6 @@ unfolding numbersOf refusals callRows firstOf _among_
 not-nine t bytes h e =
     let w = refused-where (step-outcome t bytes) 9 .0 e .0 in
     let l = 10 when (not (eqb (length bytes) 16)) ∷ callRows (read t) (callOf bytes) in
-    let nine : firstOf l ≡ 9 = rw h at w in
+    let nine : firstOf l ≡ QUEUES = rw h at w in
     let m : 9 among numbersOf l ≡ true = rw nine at (one-of-them l (λ z. omega (arith, z, nine))) in
     true≢false (sym m)

@@ -11,7 +11,7 @@ use Rattle.threads.proofs.Lists.{absent-head}
 use Rattle.words.specs.Words.{if_then_else_, oneTo, each}
 use Rattle.pools.specs.Pools.{run}
 use Rattle.tables.specs.declared.Task.{Task}
-use Rattle.tables.specs.Blocks.{Ready, Ending, Done, HoldsRun, GaveBack, noTask, withCore}
+use Rattle.tables.specs.Blocks.{Ready, Ending, Done, HoldsRun, GaveBack, noTask, withCore, requestBlocks}
 use Rattle.tables.specs.State.{State, coreQueue, withPool, withTask, taskAt, requestAt, poolAt, queue, levelOf, unitsOf, leaving}
 use Rattle.meaning.specs.Ready.{placed, fits, givenRun, readied, seated, serving, served}
 use Rattle.meaning.specs.Finish.{freedTask, freedRequest, givenBack, pending, freedIfDone, freedDone, parentReady, finished, ended, unlinked}
@@ -107,8 +107,8 @@ freed-other s k y d = other-block s k y noTask d
 finished-other : (s : State) (k y : ℕ) → y ≢ k → taskAt s k .parent ≡ 0 → Other s (finished s k) y
 unfolding finished freedDone parentReady
 finished-other s k y d z =
-    let b = each (freedIfDone k) (oneTo 16) (givenBack s k) in
-    let c : Calm s b = calm-next (calm-back s k) (calm-each k (oneTo 16) (givenBack s k)) in
+    let b = each (freedIfDone k) (oneTo requestBlocks) (givenBack s k) in
+    let c : Calm s b = calm-next (calm-back s k) (calm-each k (oneTo requestBlocks) (givenBack s k)) in
     rw (c .parent k ∙ z) (other-next s b (freedTask b k) y (c .place y) (freed-other b k y d))
 
 ended-other : (s : State) (k y : ℕ) → y ≢ k → taskAt s k .parent ≡ 0 → Other s (ended s k) y

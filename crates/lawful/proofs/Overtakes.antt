@@ -12,7 +12,7 @@ use Rattle.threads.specs.Threads.{hd, count}
 use Rattle.words.proofs.Truth.{tested, both}
 use Rattle.words.specs.Words.{if_then_else_, _among_, isEmpty, oneTo, each, adding, least}
 use Rattle.tables.specs.declared.Task.{Task}
-use Rattle.tables.specs.Blocks.{Ready, InLink, InCheck, Ending, Done, HoldsRun, noTask, newTask, moving, awaitingEvents, awaitingTime, awaitingRequest, withParent}
+use Rattle.tables.specs.Blocks.{Ready, InLink, InCheck, Ending, Done, HoldsRun, noTask, newTask, moving, awaitingEvents, awaitingTime, awaitingRequest, withParent, requestBlocks}
 use Rattle.tables.specs.State.{State, eventQueue, coreQueue, readyQueue, timeQueue, channelQueue, withClock, withOn, withRunning, withTask, withQueue, taskAt, requestAt, queue, levelOf, leaving}
 use Rattle.calls.specs.declared.Call.{Call}
 use Rattle.calls.specs.Calls.{needsTask}
@@ -107,7 +107,7 @@ module _ {s : State} {k : ℕ} {h : List ℕ} {m : List ℕ} (i : InHand s k h 0
       let all = done-cleared (i .some) (back .shape) (back .rest) (λ j p. n j (rw (frame-requests (back-frame s k)) at p)) .clears in
       let j : InHand (freedDone (givenBack s k) k) k h 0 = record { some = i .some; low = i .low; out = i .out; shape = all .shape } in
       then-turns (back-turns (i .shape) t k (i .some) (i .low))
-      (then-turns (untouched (ap (λ (x : State). x .directory) (all .others)) (ap (λ (x : State). x .tasks) (all .others)) (done-queues k (oneTo 16) (givenBack s k)))
+      (then-turns (untouched (ap (λ (x : State). x .directory) (all .others)) (ap (λ (x : State). x .tasks) (all .others)) (done-queues k (oneTo requestBlocks) (givenBack s k)))
       (then-turns (parent-turns j) (lost-turns k noTask refl refl refl (λ z. omega (arith, z)))))
 
   ended-turns : Turns s (ended s k)

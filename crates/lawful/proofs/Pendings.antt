@@ -12,7 +12,7 @@ use Rattle.threads.proofs.Lists.{count-nil}
 use Rattle.words.proofs.Truth.{tested, both}
 use Rattle.words.specs.Words.{oneTo, someOf}
 use Rattle.tables.specs.State.{State, requestAt}
-use Rattle.tables.specs.Blocks.{Queued, OnChannel}
+use Rattle.tables.specs.Blocks.{Queued, OnChannel, requestBlocks}
 use Rattle.meaning.specs.Finish.{pendingOf, pending}
 use Rattle.lawful.specs.Shape.{Pending}
 use Rattle.threads.proofs.Tests.{one-to, to-top}
@@ -46,7 +46,7 @@ pending-at s k r e =
     ⊎-elim (λ z. omega (arith, z .1)) (λ z. ⊎-elim (λ y. omega (arith, y .1)) (λ y. absurd (true≢false (sym (rw (z .0, y .0) at (p .1))))) (tested (requestAt s r .place) OnChannel)) (tested (requestAt s r .place) Queued) in
     (eqb-true _ _ (p .0), q .0, q .1)
 
-pub pending-of : (s : State) (k r : ℕ) → 1 ≤ r → r ≤ 16 → pendingOf s k r ≡ true → Pending (s .requests) k r
+pub pending-of : (s : State) (k r : ℕ) → 1 ≤ r → r ≤ requestBlocks → pendingOf s k r ≡ true → Pending (s .requests) k r
 pending-of s k r a b e = let p = pending-at s k r e in record { some = a; low = b; own = p .0; first = p .1; last = p .2 }
 
 pub of-pending : (s : State) (k r : ℕ) → Pending (s .requests) k r → pendingOf s k r ≡ true
@@ -57,12 +57,12 @@ of-pending s k r p =
 
 pub quiet-of : (s : State) (k : ℕ) → pending s k ≡ false → (j : ℕ) → Pending (s .requests) k j → ⊥
 unfolding pending
-quiet-of s k e j p = true≢false (sym (of-pending s k j p) ∙ some-none (pendingOf s k) (oneTo 16) e j (one-to 16 j (p .some) (p .low)))
+quiet-of s k e j p = true≢false (sym (of-pending s k j p) ∙ some-none (pendingOf s k) (oneTo requestBlocks) e j (one-to 16 j (p .some) (p .low)))
 
 pub pending-some : (s : State) (k : ℕ) → pending s k ≡ true → (j : ℕ) × Pending (s .requests) k j
 unfolding pending
 pending-some s k e =
-    let w = some-found (pendingOf s k) (oneTo 16) e in
+    let w = some-found (pendingOf s k) (oneTo requestBlocks) e in
     let b = to-top 16 (w .0) (w .1) in
     (w .0, pending-of s k (w .0) (b .0) (b .1) (w .2))
 

@@ -9,7 +9,7 @@ use native.Mathlib.Omega.{arith}
 use lib.ListN.{length, getD}
 use lib.Dec.{eqb}
 use borrow.Author.Tests.{eqb-true, eq-eqb}
-use Rattle.threads.specs.Threads.{count, Apart}
+use Rattle.threads.specs.Threads.{count, Apart, QUEUES}
 use Rattle.words.proofs.Truth.{tested, both, and-of}
 use Rattle.words.specs.Words.{if_then_else_, standing}
 use Rattle.tables.specs.Blocks.{Free, Running, Ready, InCore, InEvent, InTime, Queued, OnChannel}
@@ -23,13 +23,13 @@ use Rattle.threads.proofs.Standing.{standing-counts, counts-standing}
 
 -- a block n stands in the queue q and in no other, q 9 for none
 pub record Only (ls : List (List ℕ)) (n q : ℕ) : Type 0 where
-  pub only : (i : ℕ) → i < 9 → count n (getD ls i []) ≡ one q i
+  pub only : (i : ℕ) → i < QUEUES → count n (getD ls i []) ≡ one q i
 
 pub only-of : (ls : List (List ℕ)) → Apart ls → (n q : ℕ) → standing n ls ≡ q → Only ls n q
 only-of ls u n q e =
     record { only = λ i l. standing-counts n ls (u .once n) i (omega (arith, l, u .nine)) ∙ ap (λ (x : ℕ). one x i) e }
 
-pub of-only : (ls : List (List ℕ)) → length ls ≡ 9 → (n q : ℕ) → q ≤ 9 → Only ls n q → standing n ls ≡ q
+pub of-only : (ls : List (List ℕ)) → length ls ≡ QUEUES → (n q : ℕ) → q ≤ 9 → Only ls n q → standing n ls ≡ q
 of-only ls e n q b o = counts-standing n ls q (omega (arith, e, b)) (λ i l. o .only i (omega (arith, l, e)))
 
 -- ---- A task block.
@@ -50,7 +50,7 @@ module _ (s : State) (k : ℕ) where
       let p = both (eqb (standing k (s .queues)) (queueFor (taskAt s k .place) (levelOf s k))) (Bool·beq (eqb (s .running) k) (eqb (taskAt s k .place) Running)) e in
       (only-of (s .queues) u k _ (eqb-true _ _ (p .0)), same-of (s .running) k (taskAt s k .place) Running (p .1))
 
-  pub of-task-placed : length (s .queues) ≡ 9 → (taskAt s k .place ≢ Free → levelOf s k ≤ 3) → Only (s .queues) k (queueFor (taskAt s k .place) (levelOf s k))
+  pub of-task-placed : length (s .queues) ≡ QUEUES → (taskAt s k .place ≢ Free → levelOf s k ≤ 3) → Only (s .queues) k (queueFor (taskAt s k .place) (levelOf s k))
       → one (s .running) k ≡ one (taskAt s k .place) Running → taskStands s k ≡ true
   of-task-placed n l o r =
       and-of _ _ (eq-eqb _ _ (of-only (s .queues) n k _ (queue-nine (taskAt s k .place) (levelOf s k) l) o)) (of-same-ones (s .running) k (taskAt s k .place) Running r)
@@ -87,6 +87,6 @@ module _ (s : State) (r : ℕ) where
             (λ z. let l′ : i < 8 = omega (arith, l, z .1) in f i l′ ∙ sym (channel-others (requestAt s r .place) i l′)) (tested i channelQueue);
       }
 
-  pub of-request-placed : length (s .queues) ≡ 9 → Only (s .queues) (node r) (channelFor (requestAt s r .place)) → one (s .channel) r ≡ one (requestAt s r .place) OnChannel → requestStands s r ≡ true
+  pub of-request-placed : length (s .queues) ≡ QUEUES → Only (s .queues) (node r) (channelFor (requestAt s r .place)) → one (s .channel) r ≡ one (requestAt s r .place) OnChannel → requestStands s r ≡ true
   of-request-placed n o c =
       and-of _ _ (eq-eqb _ _ (of-only (s .queues) n (node r) _ (channel-nine (requestAt s r .place)) o)) (of-same-ones (s .channel) r (requestAt s r .place) OnChannel c)

@@ -7,13 +7,13 @@ use Prim.Native.Nat.{ℕ, _+_, _≤_, _<_}
 use native.Mathlib.Omega.{arith}
 use lib.ListN.{length, set, getD, length-set}
 use lib.Seq.{getD-set-same, getD-set-other}
-use Rattle.threads.specs.Threads.{count}
+use Rattle.threads.specs.Threads.{count, QUEUES}
 use Rattle.words.proofs.Truth.{tested}
 use Rattle.words.specs.Words.{_among_, upBy}
 use Rattle.image.specs.Directory.{noEntry}
 use Rattle.tables.specs.declared.Task.{Task}
 use Rattle.tables.specs.State.{State, timeQueue, channelQueue, withRunning, withTask, withQueues, taskAt, queue, levelOf}
-use Rattle.tables.specs.Blocks.{Free, Running, InLink, InCheck, Ending, noTask}
+use Rattle.tables.specs.Blocks.{Free, Running, InLink, InCheck, Ending, noTask, taskBlocks}
 use Rattle.meaning.specs.Rules.{queueFor}
 use Rattle.lawful.specs.Shape.{Hand, placeOf, Fields, Pending, Stands, holding, children, Shape}
 use Rattle.words.specs.Counting.{one}
@@ -31,15 +31,15 @@ module _ (s : State) (k : ℕ) (x : Task) where
   -- what is asked of the block x, of the queues l that come of it, and of the number r of the task that runs
   pub record Puts (l : List (List ℕ)) (r : ℕ) (h : List ℕ) (e e′ : ℕ) : Type 0 where
     pub some : 1 ≤ k
-    pub low : k ≤ 24
+    pub low : k ≤ taskBlocks
     pub out : k among h ≡ false
     pub same : SameTask (taskAt s k) x
     pub used : 1 ≤ x .place
     pub fields : Fields (s .directory) (x .place) x
-    pub nine : length l ≡ 9
+    pub nine : length l ≡ QUEUES
     pub others : (q y : ℕ) → y ≢ k → count y (getD l q []) ≡ count y (queue s q)
-    pub own : (q : ℕ) → q < 9 → count k (getD l q []) ≡ one (queueFor (x .place) (levelOf s k)) q
-    pub bound : r ≤ 24
+    pub own : (q : ℕ) → q < QUEUES → count k (getD l q []) ≡ one (queueFor (x .place) (levelOf s k)) q
+    pub bound : r ≤ taskBlocks
     pub runs : one r k ≡ one (x .place) Running
     pub run-others : (y : ℕ) → 1 ≤ y → y ≢ k → one r y ≡ one (s .running) y
     pub checks : x .place ≡ InCheck → Pending (s .requests) k (x .request)
@@ -83,7 +83,7 @@ module _ (s : State) (k : ℕ) (x : Task) where
           ends = u .ends;
         })
 
-    put-links : (y : ℕ) → 1 ≤ y → y ≤ 24 → children (set (s .tasks) k x) y ≡ one (placeOf (putting l r) h y) InLink + one y e′
+    put-links : (y : ℕ) → 1 ≤ y → y ≤ taskBlocks → children (set (s .tasks) k x) y ≡ one (placeOf (putting l r) h y) InLink + one y e′
     put-links y a b =
         sum-kept (λ (t : Task). one (t .parent) y) (s .tasks) k x noTask (ap (λ (t : Task). one (t .parent) y) (u .same))
         ∙ ⊎-elim

@@ -8,12 +8,12 @@ use native.Mathlib.Omega.{arith}
 use lib.ListN.{length}
 use lib.Dec.{eqb, leb}
 use borrow.Author.Tests.{eqb-true, eq-eqb, leb-true, le-leb}
-use Rattle.threads.specs.Threads.{Apart}
+use Rattle.threads.specs.Threads.{Apart, QUEUES}
 use Rattle.words.proofs.Truth.{tested, both, and-of, implied, of-implied, not-eq, unlike}
 use Rattle.words.specs.Words.{_implies_}
 use Rattle.tables.specs.declared.Task.{Task}
 use Rattle.tables.specs.declared.Request.{Request}
-use Rattle.tables.specs.Blocks.{Free, noTask}
+use Rattle.tables.specs.Blocks.{Free, noTask, taskBlocks}
 use Rattle.tables.specs.State.{State, channelQueue, taskAt, requestAt}
 use Rattle.meaning.specs.Rules.{blankRequest}
 use Rattle.meaning.proofs.Parts.{requestRange, requestStands, requestFree, requestClear, request-range, request-in-range}
@@ -74,7 +74,7 @@ module _ (s : State) (r : ℕ) (w : Carried s [] r) where
   some n = omega (arith, n)
 
   -- a free one has no owner
-  pub of-owner-low : requestAt s r .owner ≤ 24
+  pub of-owner-low : requestAt s r .owner ≤ taskBlocks
   of-owner-low = ⊎-elim (λ z. omega (arith, ap (λ (q : Request). q .owner) (w .free (z .1)))) (λ z. w .used (some (z .1)) .1) (tested (requestAt s r .place) 0)
 
   pub of-request-range : requestRange s r ≡ true
@@ -94,7 +94,7 @@ module _ (s : State) (r : ℕ) (w : Carried s [] r) where
       let q = requestAt s r in
       of-implied (eqb (q .place) Free) (blankRequest q) (λ z. of-request-blank (w .free (eqb-true (q .place) 0 z)))
 
-  pub of-carried : length (s .queues) ≡ 9 → requestStands s r ≡ true
+  pub of-carried : length (s .queues) ≡ QUEUES → requestStands s r ≡ true
   of-carried n = of-request-placed s r n (only-channel s r (w .others) (w .queued)) (w .runs)
 
   pub of-freeRequests : requestFree s r ≡ true

@@ -5,7 +5,7 @@ use mathlib.Core.List.{List, []}
 use Prim.Native.Nat.{ℕ, _≤_, _<_}
 use lib.ListN.{getD}
 use native.Mathlib.Omega.{arith}
-use Rattle.threads.specs.Threads.{count}
+use Rattle.threads.specs.Threads.{count, QUEUES}
 use Rattle.image.specs.declared.Directory.{Directory}
 use Rattle.tables.specs.declared.Task.{Task}
 use Rattle.tables.specs.State.{State, eventQueue, channelQueue, coreQueue, taskAt, poolAt, queue}
@@ -57,7 +57,7 @@ module _ {s s′ : State} {k : ℕ} (b : Beside s s′ k) where
 
 -- a block of no queue changes by itself, and the queues stay
 pub rest-alone : {s s′ : State} {k : ℕ} → s′ .directory ≡ s .directory → s′ .on ≡ s .on → s′ .channel ≡ s .channel → s′ .pools ≡ s .pools → s′ .queues ≡ s .queues
-    → ((y : ℕ) → y ≢ k → taskAt s′ y ≡ taskAt s y) → ((q : ℕ) → q < 9 → count k (queue s q) ≡ 0) → {m : List ℕ} → Rest s m → Rest s′ m
+    → ((y : ℕ) → y ≢ k → taskAt s′ y ≡ taskAt s y) → ((q : ℕ) → q < QUEUES → count k (queue s q) ≡ 0) → {m : List ℕ} → Rest s m → Rest s′ m
 rest-alone {s} {s′} {k} d o c p q t n r =
     let same : (i : ℕ) → queue s′ i ≡ queue s i = λ i. ap (λ (l : List (List ℕ)). getD l i []) q in
     rest-beside {s = s} {k = k} (record {
@@ -74,7 +74,7 @@ rest-alone {s} {s′} {k} d o c p q t n r =
 
 -- ---- Getting ready.
 module _ {s s′ : State} {k : ℕ} {h : List ℕ} {e : ℕ} (i : InHand s k h e) (d : Made s s′ k h e) where
-  pub not-hand : (q y : ℕ) → q < 9 → 1 ≤ count y (queue s q) → y ≢ k
+  pub not-hand : (q y : ℕ) → q < QUEUES → 1 ≤ count y (queue s q) → y ≢ k
   not-hand q y l c z = omega (arith, c, hand-count i q l, ap (λ (x : ℕ). count x (queue s q)) z)
 
   pub asleep-made : {m : List ℕ} → Asleep s m → Asleep s′ m

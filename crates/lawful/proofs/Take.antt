@@ -7,11 +7,11 @@ use mathlib.Core.List.{List, [], _∷_}
 use Prim.Native.Nat.{ℕ, _+_, _≤_, _<_}
 use native.Mathlib.Omega.{arith}
 use lib.ListN.{length, getD}
-use Rattle.threads.specs.Threads.{count}
+use Rattle.threads.specs.Threads.{count, QUEUES}
 use Rattle.words.proofs.Truth.{tested}
 use Rattle.words.specs.Words.{upBy}
 use Rattle.tables.specs.State.{State, timeQueue, channelQueue, withRunning, withQueues, taskAt, queue}
-use Rattle.tables.specs.Blocks.{Free, Running, InLink}
+use Rattle.tables.specs.Blocks.{Free, Running, InLink, taskBlocks}
 use Rattle.meaning.specs.Rules.{queueFor}
 use Rattle.lawful.specs.Shape.{Hand, placeOf, Stands, Shape}
 use Rattle.words.specs.Counting.{one}
@@ -26,12 +26,12 @@ module _ (s : State) (k : ℕ) where
 
   pub record Takes (l : List (List ℕ)) (r : ℕ) (h : List ℕ) (e e′ : ℕ) : Type 0 where
     pub some : 1 ≤ k
-    pub low : k ≤ 24
+    pub low : k ≤ taskBlocks
     pub used : placeOf s h k ≢ Free
-    pub nine : length l ≡ 9
+    pub nine : length l ≡ QUEUES
     pub others : (q y : ℕ) → y ≢ k → count y (getD l q []) ≡ count y (queue s q)
-    pub own : (q : ℕ) → q < 9 → count k (getD l q []) ≡ 0
-    pub bound : r ≤ 24
+    pub own : (q : ℕ) → q < QUEUES → count k (getD l q []) ≡ 0
+    pub bound : r ≤ taskBlocks
     pub runs : r ≢ k
     pub run-others : (y : ℕ) → 1 ≤ y → y ≢ k → one r y ≡ one (s .running) y
     pub links : one (placeOf s h k) InLink + one k e ≡ one k e′
@@ -44,7 +44,7 @@ module _ (s : State) (k : ℕ) where
     unfolding placeOf
     place-other y d = other-place (taking l r) h k y d
 
-    none-queued : (level q : ℕ) → q < 9 → one (queueFor Hand level) q ≡ 0
+    none-queued : (level q : ℕ) → q < QUEUES → one (queueFor Hand level) q ≡ 0
     unfolding queueFor
     none-queued level q z = one-other 9 q (λ i. omega (arith, i, z))
 

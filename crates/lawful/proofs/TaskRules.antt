@@ -9,7 +9,7 @@ use lib.Dec.{eqb, leb, ltb}
 use borrow.Author.Tests.{eqb-true, eq-eqb, ne-eqb, leb-true, le-leb, ltb-true, lt-ltb}
 use Rattle.words.specs.Words.{_implies_, size}
 use Rattle.tables.specs.declared.Task.{Task}
-use Rattle.tables.specs.Blocks.{Free, InCore, InEvent, InTime, InCheck, inPlace}
+use Rattle.tables.specs.Blocks.{Free, InCore, InEvent, InTime, InCheck, inPlace, requestBlocks}
 use Rattle.tables.specs.State.{State, taskAt, unitsOf}
 use Rattle.meaning.specs.Ready.{needsCore}
 use Rattle.meaning.specs.Rules.{blankTask}
@@ -90,7 +90,7 @@ highest-five : (p : ℕ) → p ≤ 8 → p ≢ 6 → p ≢ 7 → p ≢ 8 → p �
 highest-five p h a b c = omega arith
 
 module _ (s : State) (k : ℕ) (f : Fields (s .directory) (taskAt s k .place) (taskAt s k)) where
-  pub of-range : taskAt s k .request ≤ 16 → taskRange s k ≡ true
+  pub of-range : taskAt s k .request ≤ requestBlocks → taskRange s k ≡ true
   of-range q =
       let t = taskAt s k in
       task-in-range (s .directory .modules) (unitsOf s k) t (record {

@@ -2,13 +2,13 @@
 use mathlib.Core.Bool.{true, not}
 use mathlib.Core.Path.{_≡_, ap}
 use mathlib.Core.Logic.{_≢_, ⊎-elim}
-use Prim.Native.Nat.{ℕ, _^_, _≤_}
+use Prim.Native.Nat.{ℕ, _^_, _≤_, _+_}
 use native.Mathlib.Omega.{arith}
 use lib.Dec.{eqb}
 use borrow.Author.Tests.{eq-eqb, eqb-true, le-leb, lt-ltb, ne-eqb}
 use Rattle.words.proofs.Truth.{tested, and-of, of-implied}
 use Rattle.words.specs.Words.{_implies_, has}
-use Rattle.tables.specs.Blocks.{Free, InLink, InCheck, Ending}
+use Rattle.tables.specs.Blocks.{Free, InLink, InCheck, Ending, taskBlocks, requestBlocks}
 use Rattle.tables.specs.State.{State, taskAt, poolAt, levelOf}
 use Rattle.meaning.specs.Conditions.{undefinedIn}
 use Rattle.meaning.specs.Finish.{pendingOf, pending}
@@ -35,13 +35,13 @@ has-not : (w : ℕ) → bit w 0 ≡ 0 → not (has w 0) ≡ true
 has-not w e = ap not (ne-eqb (bit w 0) 1 (λ z. omega (arith, e, z)))
 
 module _ {s : State} (g : Lawful s) where
-  stands : (k : ℕ) → 1 ≤ k → k ≤ 24 → Stands s (taskAt s k .place) k
+  stands : (k : ℕ) → 1 ≤ k → k ≤ taskBlocks → Stands s (taskAt s k .place) k
   stands k a b = rw (rest-place s k) at (g .shape .tasks k a b)
 
-  level-low : (k : ℕ) → 1 ≤ k → k ≤ 24 → taskAt s k .place ≢ Free → levelOf s k ≤ 3
+  level-low : (k : ℕ) → 1 ≤ k → k ≤ taskBlocks → taskAt s k .place ≢ Free → levelOf s k ≤ 3
   level-low k a b n = g .shape .directory .worst _ (stands k a b .fields .program n)
 
-  request-low : (k : ℕ) → 1 ≤ k → k ≤ 24 → taskAt s k .request ≤ 16
+  request-low : (k : ℕ) → 1 ≤ k → k ≤ taskBlocks → taskAt s k .request ≤ requestBlocks
   request-low k a b =
       let w = stands k a b in
       ⊎-elim (λ i. w .checks (i .1) .low) (λ i. omega (arith, no-request s k (w .fields) (i .1))) (tested (taskAt s k .place) InCheck)
@@ -78,9 +78,9 @@ module _ {s : State} (g : Lawful s) where
       record {
         tasks = to-all (taskFree s) 24 (λ k a b. of-set (s .freeTasks) (taskAt s k .place) Free k (stands k a b .freeTasks));
         requests = to-all (requestFree s) 16 (λ r a b. of-freeRequests s r (g .shape .requests r a b));
-        freeTasks = lt-ltb (s .freeTasks) (2 ^ 25) (b .freeTasks);
+        freeTasks = lt-ltb (s .freeTasks) (2 ^ (taskBlocks + 1)) (b .freeTasks);
         freeTasks-none = has-not (s .freeTasks) (b .freeTasks-none);
-        freeRequests = lt-ltb (s .freeRequests) (2 ^ 17) (b .freeRequests);
+        freeRequests = lt-ltb (s .freeRequests) (2 ^ (requestBlocks + 1)) (b .freeRequests);
         freeRequests-none = has-not (s .freeRequests) (b .freeRequests-none);
       }
 
@@ -120,7 +120,7 @@ module _ {s : State} (g : Lawful s) where
       (λ k a b. of-implied (eqb (taskAt s k .place) Ending) (pending s k) (λ i. let w = stands k a b .ends (eqb-true _ _ i) in some-pending s k (w .0) (w .1)))
 
   -- with none in hand, a block has a child where it is in LINK
-  all-linked : (p : ℕ) → 1 ≤ p → p ≤ 24 → children (s .tasks) p ≡ one (taskAt s p .place) InLink
+  all-linked : (p : ℕ) → 1 ≤ p → p ≤ taskBlocks → children (s .tasks) p ≡ one (taskAt s p .place) InLink
   all-linked p a b = omega (arith, g .shape .links p a b, one-other p 0 (λ i. omega (arith, i, a)), ap (λ (x : ℕ). one x InLink) (rest-place s p))
 
   pub lawful-rules : Keeps s

@@ -13,7 +13,7 @@ use Rattle.words.specs.Words.{_among_}
 use Rattle.image.specs.Directory.{noEntry}
 use Rattle.tables.specs.declared.Task.{Task}
 use Rattle.tables.specs.State.{State, timeQueue, taskAt, queue, levelOf}
-use Rattle.tables.specs.Blocks.{InLink, noTask, withParent}
+use Rattle.tables.specs.Blocks.{InLink, noTask, withParent, taskBlocks}
 use Rattle.meaning.specs.Conditions.{enough}
 use Rattle.meaning.specs.Rules.{queueFor}
 use Rattle.meaning.specs.Finish.{unlinked}
@@ -28,7 +28,7 @@ use Rattle.words.proofs.Counting.{one-other, one-sym}
 use Rattle.lawful.proofs.Made.{stuck-same}
 use Rattle.lawful.proofs.Finish.{ends}
 
-module _ {s : State} {h : List ℕ} {e : ℕ} (g : Shape s h e) (k : ℕ) (some : 1 ≤ k) (low : k ≤ 24) (l : taskAt s k .parent ≡ e) where
+module _ {s : State} {h : List ℕ} {e : ℕ} (g : Shape s h e) (k : ℕ) (some : 1 ≤ k) (low : k ≤ taskBlocks) (l : taskAt s k .parent ≡ e) where
   abbrev lone : Task
   lone = withParent (taskAt s k) 0
 
@@ -65,7 +65,7 @@ module _ {s : State} {h : List ℕ} {e : ℕ} (g : Shape s h e) (k : ℕ) (some 
         ends = w .ends;
       })
 
-  lone-links : (y : ℕ) → 1 ≤ y → y ≤ 24 → children (unlinked s k .tasks) y ≡ one (placeOf (unlinked s k) h y) InLink + one y 0
+  lone-links : (y : ℕ) → 1 ≤ y → y ≤ taskBlocks → children (unlinked s k .tasks) y ≡ one (placeOf (unlinked s k) h y) InLink + one y 0
   unfolding unlinked
   lone-links y a b =
       omega (

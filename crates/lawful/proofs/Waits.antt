@@ -8,7 +8,7 @@ use native.Mathlib.Omega.{arith}
 use lib.ListN.{length, set, getD}
 use lib.Seq.{getD-set-same, getD-set-other}
 use lib.Bits.{bitAnd}
-use Rattle.threads.specs.Threads.{count}
+use Rattle.threads.specs.Threads.{count, QUEUES}
 use Rattle.words.proofs.Truth.{tested}
 use Rattle.words.specs.Words.{insertedBy, size}
 use Rattle.image.specs.Directory.{noEntry}
@@ -27,7 +27,7 @@ use Rattle.lawful.proofs.Made.{stuck-same}
 use Rattle.lawful.proofs.Sums.{field-kept}
 
 module _ {s : State} {k : ℕ} {h : List ℕ} {e : ℕ} (i : InHand s k h e) where
-  nine : length (s .queues) ≡ 9
+  nine : length (s .queues) ≡ QUEUES
   nine = i .shape .sizes .queues
 
   module _ (n v : ℕ) (p : (bitAnd v (s .directory .defined) ≡ v) × (1 ≤ n) × (n ≤ size v)) where

@@ -11,6 +11,7 @@ use Rattle.calls.specs.declared.Call.{Call}
 use Rattle.calls.specs.Calls.{CHECK, TIMER, IO-DONE, known, needsTask}
 use Rattle.meaning.specs.Refusals.{starts, tellsEvents, transfers, waits, clockEnd}
 use Rattle.words.specs.Counting.{bit}
+use Rattle.tables.specs.Blocks.{requestBlocks}
 
 -- 13, 14 and 15, of a call with a condition
 pub record Condition (s : State) (c : Call) : Type 0 where
@@ -29,6 +30,6 @@ pub record Accepts (s : State) (c : Call) : Type 0 where
   pub device : transfers c ≡ true → c .number ≤ 249
   pub bytes : transfers c ≡ true → (1 ≤ c .amount) × (c .amount ≤ 65535)
   pub freeRequests : transfers c ≡ true → s .freeRequests ≢ 0
-  pub held : c .code ≡ CHECK → (1 ≤ c .number) × (c .number ≤ 16) × (requestAt s (c .number) .place ≢ 0) × (requestAt s (c .number) .owner ≡ s .running)
+  pub held : c .code ≡ CHECK → (1 ≤ c .number) × (c .number ≤ requestBlocks) × (requestAt s (c .number) .place ≢ 0) × (requestAt s (c .number) .owner ≡ s .running)
   pub channel : c .code ≡ IO-DONE → s .channel ≢ 0
   pub clock : c .code ≡ TIMER → s .clock ≢ clockEnd

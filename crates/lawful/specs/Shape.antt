@@ -5,11 +5,11 @@ use mathlib.Core.Bool.{true, false, cond, _&&_}
 use mathlib.Core.Path.{_≡_}
 use mathlib.Core.Logic.{_≢_}
 use mathlib.Core.List.{List, _∷_}
-use Prim.Native.Nat.{ℕ, _+_, _^_, _≤_, _<_}
+use Prim.Native.Nat.{ℕ, _+_, _^_, _≤_, _<_, suc}
 use lib.ListN.{length, getD}
 use lib.Bits.{bitAnd}
 use lib.Dec.{eqb}
-use Rattle.threads.specs.Threads.{count}
+use Rattle.threads.specs.Threads.{count, QUEUES}
 use Rattle.words.specs.Words.{_among_, upBy, size}
 use Rattle.words.specs.Counting.{one, bit, sum}
 use Rattle.image.specs.declared.Entry.{Entry}
@@ -17,7 +17,7 @@ use Rattle.image.specs.declared.Directory.{Directory}
 use Rattle.image.specs.Directory.{entryAt}
 use Rattle.tables.specs.declared.Task.{Task}
 use Rattle.tables.specs.declared.Request.{Request}
-use Rattle.tables.specs.Blocks.{Free, Running, Ready, InCore, InEvent, InTime, InLink, InCheck, Ending, Queued, OnChannel, noTask, noRequest, inPlace}
+use Rattle.tables.specs.Blocks.{Free, Running, Ready, InCore, InEvent, InTime, InLink, InCheck, Ending, Queued, OnChannel, noTask, noRequest, inPlace, taskBlocks, requestBlocks}
 use Rattle.tables.specs.State.{State, timeQueue, channelQueue, node, taskAt, requestAt, poolAt, queue, levelOf}
 use Rattle.pools.specs.Pools.{run}
 use Rattle.meaning.specs.Rules.{directoryPasses, queueFor}
@@ -47,7 +47,7 @@ pub record Fields (d : Directory) (p : ℕ) (t : Task) : Type 0 where
   pub place : t .place ≤ 8
   pub free : p ≡ Free → t ≡ noTask
   pub program : p ≢ Free → t .program < d .modules
-  pub parent : t .parent ≤ 24
+  pub parent : t .parent ≤ taskBlocks
   pub core : t .core ≤ 2
   pub inside : t .core ≡ 1 → t .start + moduleOf d t .units ≤ 64
   pub start : t .core ≢ 1 → t .start ≡ 0
@@ -60,7 +60,7 @@ pub record Fields (d : Directory) (p : ℕ) (t : Task) : Type 0 where
 -- the request r is the task y's, and "queued or on the channel"
 pub record Pending (l : List Request) (y r : ℕ) : Type 0 where
   pub some : 1 ≤ r
-  pub low : r ≤ 16
+  pub low : r ≤ requestBlocks
   pub own : getD l r noRequest .owner ≡ y
   pub first : 1 ≤ getD l r noRequest .place
   pub last : getD l r noRequest .place ≤ 2
@@ -69,7 +69,7 @@ pub record Pending (l : List Request) (y r : ℕ) : Type 0 where
 -- "CHECK waits for an own pending request", "an ending task has one"
 pub record Stands (s : State) (p y : ℕ) : Type 0 where
   pub fields : Fields (s .directory) p (taskAt s y)
-  pub queued : (q : ℕ) → q < 9 → count y (queue s q) ≡ one (queueFor p (levelOf s y)) q
+  pub queued : (q : ℕ) → q < QUEUES → count y (queue s q) ≡ one (queueFor p (levelOf s y)) q
   pub runs : one (s .running) y ≡ one p Running
   pub freeTasks : bit (s .freeTasks) y ≡ one p Free
   pub checks : p ≡ InCheck → Pending (s .requests) y (taskAt s y .request)
@@ -79,7 +79,7 @@ pub record Stands (s : State) (p y : ℕ) : Type 0 where
 pub record Carried (s : State) (h : List ℕ) (r : ℕ) : Type 0 where
   pub kind : requestAt s r .place ≤ 3
   pub free : requestAt s r .place ≡ 0 → requestAt s r ≡ noRequest
-  pub used : 1 ≤ requestAt s r .place → (1 ≤ requestAt s r .owner) × (requestAt s r .owner ≤ 24) × (requestAt s r .device ≤ 249) × (13 ≤ requestAt s r .command) × (requestAt s r .command ≤ 14) × (1 ≤ requestAt s r .bytes)
+  pub used : 1 ≤ requestAt s r .place → (1 ≤ requestAt s r .owner) × (requestAt s r .owner ≤ taskBlocks) × (requestAt s r .device ≤ 249) × (13 ≤ requestAt s r .command) × (requestAt s r .command ≤ 14) × (1 ≤ requestAt s r .bytes)
   pub owned : 1 ≤ requestAt s r .place → placeOf s h (requestAt s r .owner) ≢ Free
   pub others : (q : ℕ) → q < 8 → count (node r) (queue s q) ≡ 0
   pub queued : count (node r) (queue s channelQueue) ≡ one (requestAt s r .place) Queued
@@ -105,7 +105,7 @@ children l p = sum (λ t. one (t .parent) p) l
 -- no ring of parents: each is below its child by some measure
 pub record Ranked (l : List Task) : Type 0 where
   pub rank : ℕ → ℕ
-  pub above : (y : ℕ) → y ≤ 24 → getD l y noTask .parent ≢ 0 → rank (getD l y noTask .parent) < rank y
+  pub above : (y : ℕ) → y ≤ taskBlocks → getD l y noTask .parent ≢ 0 → rank (getD l y noTask .parent) < rank y
 
 -- ---- "the directory passes 4 to 7", and what the rules of the blocks take from it.
 pub record Passing (d : Directory) : Type 0 where
@@ -118,22 +118,22 @@ pub record Passing (d : Directory) : Type 0 where
 
 -- ---- 'Sizes', with slot 0 for no block.
 pub record Sizes (s : State) : Type 0 where
-  pub tasks : length (s .tasks) ≡ 25
-  pub requests : length (s .requests) ≡ 17
+  pub tasks : length (s .tasks) ≡ suc taskBlocks
+  pub requests : length (s .requests) ≡ suc requestBlocks
   pub pools : length (s .pools) ≡ 4
-  pub queues : length (s .queues) ≡ 9
+  pub queues : length (s .queues) ≡ QUEUES
 
 -- "Zero names no block": block 0 is zero. "The free blocks are sets", of blocks. "events on are defined"
 pub record Blank (s : State) : Type 0 where
   pub block : taskAt s 0 ≡ noTask
   pub request : requestAt s 0 ≡ noRequest
   pub pool : poolAt s 0 ≡ 0
-  pub freeTasks : s .freeTasks < 2 ^ 25
+  pub freeTasks : s .freeTasks < 2 ^ (taskBlocks + 1)
   pub freeTasks-none : bit (s .freeTasks) 0 ≡ 0
-  pub freeRequests : s .freeRequests < 2 ^ 17
+  pub freeRequests : s .freeRequests < 2 ^ (requestBlocks + 1)
   pub freeRequests-none : bit (s .freeRequests) 0 ≡ 0
-  pub running : s .running ≤ 24
-  pub channel : s .channel ≤ 16
+  pub running : s .running ≤ taskBlocks
+  pub channel : s .channel ≤ requestBlocks
   pub on : (v : ℕ) → bit (s .on) v ≤ bit (s .directory .defined) v
 
 -- ---- All of them: the blocks h are in hand, and e (0: none) has a child though it is not in LINK. "the time queue by time, the channel queue by level"
@@ -141,12 +141,12 @@ pub record Shape (s : State) (h : List ℕ) (e : ℕ) : Type 0 where
   pub sizes : Sizes s
   pub directory : Passing (s .directory)
   pub blank : Blank s
-  pub tasks : (y : ℕ) → 1 ≤ y → y ≤ 24 → Stands s (placeOf s h y) y
-  pub requests : (r : ℕ) → 1 ≤ r → r ≤ 16 → Carried s h r
+  pub tasks : (y : ℕ) → 1 ≤ y → y ≤ taskBlocks → Stands s (placeOf s h y) y
+  pub requests : (r : ℕ) → 1 ≤ r → r ≤ requestBlocks → Carried s h r
   pub none : (q : ℕ) → count 0 (queue s q) ≡ 0
   pub beyond : (q y : ℕ) → 40 < y → count y (queue s q) ≡ 0
   pub core : Core (s .directory) (s .tasks) (s .pools)
-  pub links : (p : ℕ) → 1 ≤ p → p ≤ 24 → children (s .tasks) p ≡ one (placeOf s h p) InLink + one p e
+  pub links : (p : ℕ) → 1 ≤ p → p ≤ taskBlocks → children (s .tasks) p ≡ one (placeOf s h p) InLink + one p e
   pub ranked : Ranked (s .tasks)
   pub timed : upBy (λ a. taskAt s a .time) (queue s timeQueue) ≡ true
   pub levelled : upBy (channelLevel s) (queue s channelQueue) ≡ true
@@ -154,6 +154,6 @@ pub record Shape (s : State) (h : List ℕ) (e : ℕ) : Type 0 where
 -- the block k is in hand, besides h
 pub record InHand (s : State) (k : ℕ) (h : List ℕ) (e : ℕ) : Type 0 where
   pub some : 1 ≤ k
-  pub low : k ≤ 24
+  pub low : k ≤ taskBlocks
   pub out : k among h ≡ false
   pub shape : Shape s (k ∷ h) e

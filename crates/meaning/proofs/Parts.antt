@@ -8,7 +8,8 @@ use Rattle.words.specs.Words.{if_then_else_, _implies_, standing, has}
 use Rattle.tables.specs.declared.Task.{Task}
 use Rattle.tables.specs.declared.Request.{Request}
 use Rattle.tables.specs.Blocks.{taskBlocks, requestBlocks, Free, Running, InEvent, InTime, InCheck, Ending, Queued, OnChannel, Done, HoldsRun, GaveBack, NotGranted}
-use Rattle.tables.specs.State.{State, channelQueue, noQueue, node, taskAt, requestAt, poolAt, levelOf, unitsOf}
+use Rattle.tables.specs.State.{State, channelQueue, node, taskAt, requestAt, poolAt, levelOf, unitsOf}
+use Rattle.threads.specs.Threads.{noQueue}
 use Rattle.meaning.specs.Rules.{everyTask, everyRequest, taskInRange, requestInRange, inRange, queueFor, freeSets, blankTask, blankRequest, clearTask, clearRequest, fieldsClear}
 use Rattle.words.proofs.Truth.{both}
 

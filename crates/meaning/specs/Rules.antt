@@ -5,7 +5,7 @@ use mathlib.Core.List.{List, [], _∷_, _++_}
 use Prim.Native.Nat.{ℕ, zero, suc, _+_, _^_}
 use lib.Dec.{eqb, leb, ltb}
 use Rattle.threads.specs.declared.Threads.{Threads}
-use Rattle.threads.specs.Threads.{BLOCKS, hd, counts, threaded, queuesOf}
+use Rattle.threads.specs.Threads.{BLOCKS, hd, counts, threaded, queuesOf, noQueue}
 use Rattle.words.specs.Words.{if_then_else_, _implies_, isEmpty, below, oneTo, allOf, howMany, sameList, upBy, standing, allTrue, has, size}
 use Rattle.words.specs.Rows.{firstOf}
 use Rattle.image.specs.declared.Directory.{Directory}
@@ -14,7 +14,7 @@ use Rattle.tables.specs.declared.Task.{Task}
 use Rattle.tables.specs.declared.Request.{Request}
 use Rattle.tables.specs.declared.Tables.{Tables}
 use Rattle.tables.specs.Blocks.{taskBlocks, requestBlocks, Free, Running, Ready, InCore, InEvent, InTime, InLink, InCheck, Ending, Queued, OnChannel, Done, HoldsRun, GaveBack, NotGranted}
-use Rattle.tables.specs.State.{State, eventQueue, readyQueue, coreQueue, timeQueue, channelQueue, noQueue, node, taskAt, requestAt, poolAt, queue, levelOf, unitsOf, read}
+use Rattle.tables.specs.State.{State, eventQueue, readyQueue, coreQueue, timeQueue, channelQueue, node, taskAt, requestAt, poolAt, queue, levelOf, unitsOf, read}
 use Rattle.meaning.specs.Conditions.{undefinedIn, enough}
 use Rattle.pools.specs.Pools.{inRun}
 use Rattle.meaning.specs.Ready.{fits, needsCore}

@@ -7,12 +7,12 @@ use Prim.Native.Nat.{ℕ, zero, suc, _+_, _≤_, _<_}
 use native.Mathlib.Numerals.{add-one}
 use native.Mathlib.Omega.{arith}
 use native.Mathlib.Nat.{eq-zero-or-pos}
-use lib.ListN.{length, set, getD, drop, replicate, drop-of-length-le, length-set, getD-replicate}
+use lib.ListN.{length, set, getD, drop, drop-of-length-le, length-set, getD-replicate}
 use lib.Seq.{drop-cons, getD-set-same, getD-set-other, ext-getD}
 use lib.Dec.{eqb, leb}
 use borrow.Author.Tests.{eq-eqb, eqb-true, leb-true}
 use Rattle.threads.specs.declared.Threads.{Threads}
-use Rattle.threads.specs.Threads.{hd, lst, after, before, listOf, counts, row, threaded, Sound}
+use Rattle.threads.specs.Threads.{hd, lst, after, before, listOf, counts, row, threaded, Sound, BLOCKS, QUEUES, noQueue}
 use Rattle.threads.proofs.Lists.{count-nil, count-hit, count-past, after-here, after-past, before-here, before-past}
 use Rattle.words.proofs.Truth.{tested, both}
 use Rattle.threads.proofs.Rows.{length-row, row-at}
@@ -21,14 +21,14 @@ use Rattle.threads.proofs.Read.{sound}
 use Rattle.words.specs.Words.{oneTo}
 use Rattle.threads.proofs.Tests.{all-of, one-to}
 use Rattle.pointers.proofs.Passes.{passes}
-use Rattle.pointers.specs.Walked.{clearAt, restClear}
+use Rattle.pointers.specs.Walked.{clearAt, restClear, steps, noMarks, lastQueue}
 
 -- the arrays have their lengths
 pub record Lengths (t : Threads) : Type 0 where
   pub fwd : length (t .fwd) ≡ 41
   pub back : length (t .back) ≡ 41
-  pub first : length (t .first) ≡ 9
-  pub last : length (t .last) ≡ 9
+  pub first : length (t .first) ≡ QUEUES
+  pub last : length (t .last) ≡ QUEUES
 
 -- What the walk from y on has gone through: the rest of the queue q, and the queues after it. Their blocks had no mark before, and each cell of
 -- a block with no mark says what these lists say.
@@ -36,26 +36,26 @@ pub record Ran (t : Threads) (q p y : ℕ) (m : List ℕ) : Type 0 where
   pub here : List ℕ
   pub later : List (List ℕ)
   pub start : y ≡ hd here
-  pub many : length later + q ≡ 8
+  pub many : length later + q ≡ lastQueue
   pub firsts : map hd later ≡ drop (suc q) (t .first)
   pub lasts : lst p here ∷ map (lst 0) later ≡ drop q (t .last)
   pub once : (z : ℕ) → counts z (here ∷ later) ≤ 1
-  pub inside : (z : ℕ) → 1 ≤ counts z (here ∷ later) → (1 ≤ z) × (z ≤ 40) × (getD m z 0 ≡ 9)
-  pub next : (z : ℕ) → 1 ≤ z → z ≤ 40 → getD m z 0 ≡ 9 → getD (t .fwd) z 0 ≡ after (flat (here ∷ later)) z
-  pub prev : (z : ℕ) → 1 ≤ z → z ≤ 40 → getD m z 0 ≡ 9 → getD (t .back) z 0 ≡ before p (flat (here ∷ later)) z
+  pub inside : (z : ℕ) → 1 ≤ counts z (here ∷ later) → (1 ≤ z) × (z ≤ BLOCKS) × (getD m z 0 ≡ noQueue)
+  pub next : (z : ℕ) → 1 ≤ z → z ≤ BLOCKS → getD m z 0 ≡ noQueue → getD (t .fwd) z 0 ≡ after (flat (here ∷ later)) z
+  pub prev : (z : ℕ) → 1 ≤ z → z ≤ BLOCKS → getD m z 0 ≡ noQueue → getD (t .back) z 0 ≡ before p (flat (here ∷ later)) z
   pub slot : (getD (t .fwd) 0 0 ≡ 0) × (getD (t .back) 0 0 ≡ 0)
 
-clear-gives : (t : Threads) (m : List ℕ) (y : ℕ) → getD m y 0 ≡ 9 → clearAt t m y ≡ true → (getD (t .fwd) y 0 ≡ 0) × (getD (t .back) y 0 ≡ 0)
+clear-gives : (t : Threads) (m : List ℕ) (y : ℕ) → getD m y 0 ≡ noQueue → clearAt t m y ≡ true → (getD (t .fwd) y 0 ≡ 0) × (getD (t .back) y 0 ≡ 0)
 unfolding clearAt
 clear-gives t m y e h =
     let b = both (eqb (getD (t .fwd) y 0) 0) (eqb (getD (t .back) y 0) 0) (rw (eq-eqb (getD m y 0) 9 e) at h) in
     (eqb-true _ _ (b .0), eqb-true _ _ (b .1))
 
-rest-gives : (t : Threads) (m : List ℕ) → restClear t m ≡ true → (y : ℕ) → y ≤ 40 → getD m y 0 ≡ 9 → (getD (t .fwd) y 0 ≡ 0) × (getD (t .back) y 0 ≡ 0)
+rest-gives : (t : Threads) (m : List ℕ) → restClear t m ≡ true → (y : ℕ) → y ≤ BLOCKS → getD m y 0 ≡ noQueue → (getD (t .fwd) y 0 ≡ 0) × (getD (t .back) y 0 ≡ 0)
 unfolding restClear
 rest-gives t m h zero l e = clear-gives t m 0 e (both (clearAt t m 0) _ h .0)
 rest-gives t m h (suc y) l e =
-    clear-gives t m (suc y) e (all-of (clearAt t m) (oneTo 40) (both (clearAt t m 0) _ h .1) (suc y) (one-to 40 (suc y) (omega arith) l))
+    clear-gives t m (suc y) e (all-of (clearAt t m) (oneTo BLOCKS) (both (clearAt t m 0) _ h .1) (suc y) (one-to 40 (suc y) (omega arith) l))
 
 counts-hit : (y : ℕ) (l : List ℕ) (ls : List (List ℕ)) → counts y ((y ∷ l) ∷ ls) ≡ 1 + counts y (l ∷ ls)
 unfolding counts
@@ -79,7 +79,7 @@ hd-flat [] ls = refl
 hd-flat (a ∷ l) ls = refl
 
 module _ (t : Threads) (s : Lengths t) (q p y : ℕ) (m : List ℕ) where
-  ran-end : y ≡ 0 → getD (t .last) q 0 ≡ p → q ≡ 8 → getD m 0 0 ≡ 9 → restClear t m ≡ true → Ran t q p y m
+  ran-end : y ≡ 0 → getD (t .last) q 0 ≡ p → q ≡ lastQueue → getD m 0 0 ≡ noQueue → restClear t m ≡ true → Ran t q p y m
   unfolding flat after before
   ran-end e l k z h =
       record {
@@ -119,7 +119,7 @@ module _ (t : Threads) (s : Lengths t) (q p y : ℕ) (m : List ℕ) where
         slot = r .slot;
       }
 
-  ran-block : y ≢ 0 → y ≤ 40 → getD m y 0 ≡ 9 → getD (t .back) y 0 ≡ p → length m ≡ 41 → q ≤ 8
+  ran-block : y ≢ 0 → y ≤ BLOCKS → getD m y 0 ≡ noQueue → getD (t .back) y 0 ≡ p → length m ≡ suc BLOCKS → q ≤ lastQueue
       → Ran t q y (getD (t .fwd) y 0) (set m y q) → Ran t q p y m
   unfolding flat
   ran-block o b k l n low r =
@@ -156,7 +156,7 @@ module _ (t : Threads) (s : Lengths t) (q p y : ℕ) (m : List ℕ) where
         slot = r .slot;
       }
 
-pub ran : (t : Threads) → Lengths t → (n q p y : ℕ) (m : List ℕ) → q ≤ 8 → length m ≡ 41 → getD m 0 0 ≡ 9 → passes t n q p y m ≡ true → Ran t q p y m
+pub ran : (t : Threads) → Lengths t → (n q p y : ℕ) (m : List ℕ) → q ≤ lastQueue → length m ≡ suc BLOCKS → getD m 0 0 ≡ noQueue → passes t n q p y m ≡ true → Ran t q p y m
 unfolding passes
 ran t s zero q p y m h k z e = absurd (true≢false (sym e))
 ran t s (suc n) q p y m h k z e =
@@ -182,17 +182,17 @@ unfolding row
 row-zero f = refl
 
 -- an array of 41 cells is the row of what its cells are
-row-is : (a : List ℕ) (f : ℕ → ℕ) → length a ≡ 41 → getD a 0 0 ≡ 0 → ((y : ℕ) → 1 ≤ y → y ≤ 40 → getD a y 0 ≡ f y) → a ≡ row f
+row-is : (a : List ℕ) (f : ℕ → ℕ) → length a ≡ 41 → getD a 0 0 ≡ 0 → ((y : ℕ) → 1 ≤ y → y ≤ BLOCKS → getD a y 0 ≡ f y) → a ≡ row f
 row-is a f n z h = ext-getD 0 a (row f) (n ∙ sym (length-row f)) cell
   where
     cell : (i : ℕ) → i < length a → getD a i 0 ≡ getD (row f) i 0
     cell zero k = z ∙ row-zero f
     cell (suc i) k = h (suc i) (omega arith) (omega (arith, n)) ∙ sym (row-at f (suc i) (omega arith) (omega (arith, n)))
 
-pub unmarked : (z : ℕ) → z ≤ 40 → _≡_ {A = ℕ} (getD (replicate 41 9) z 0) 9
-unmarked z h = getD-replicate 41 z 9 0 (omega arith)
+pub unmarked : (z : ℕ) → z ≤ BLOCKS → _≡_ {A = ℕ} (getD noMarks z 0) noQueue
+unmarked z h = getD-replicate (suc BLOCKS) z noQueue 0 (omega arith)
 
-threads-is : (t : Threads) → Lengths t → (r : Ran t 0 0 (getD (t .first) 0 0) (replicate 41 9)) → t ≡ threaded (r .here ∷ r .later)
+threads-is : (t : Threads) → Lengths t → (r : Ran t 0 0 (getD (t .first) 0 0) noMarks) → t ≡ threaded (r .here ∷ r .later)
 unfolding threaded
 threads-is t s r =
     let ls = r .here ∷ r .later in
@@ -203,9 +203,9 @@ threads-is t s r =
     let last = sym (r .lasts) in
     λ i. record { fwd = fwd i; back = back i; first = first i; last = last i }
 
-pub passes-sound : (t : Threads) → Lengths t → passes t 50 0 0 (getD (t .first) 0 0) (replicate 41 9) ≡ true → Sound t
+pub passes-sound : (t : Threads) → Lengths t → passes t steps 0 0 (getD (t .first) 0 0) noMarks ≡ true → Sound t
 passes-sound t s e =
-    let r = ran t s 50 0 0 (getD (t .first) 0 0) (replicate 41 9) (omega arith) refl refl e in
+    let r = ran t s steps 0 0 (getD (t .first) 0 0) noMarks (omega arith) refl refl e in
     sound (r .here ∷ r .later)
     (record { nine = omega (arith, r .many); once = r .once; inside = λ z h. let i = r .inside z h in (i .0, i .1) })
     t (threads-is t s r) .0

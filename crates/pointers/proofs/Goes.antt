@@ -7,11 +7,11 @@ use Prim.Native.Nat.{ℕ, zero, suc, _+_, _-_, _≤_, _<_}
 use native.Mathlib.Numerals.{add-one}
 use native.Mathlib.Omega.{arith}
 use native.Mathlib.Nat.{not-suc-le-zero, le-of-suc-le-suc}
-use lib.ListN.{length, set, getD, take, drop, replicate, length-append, length-set, drop-of-length-le}
+use lib.ListN.{length, set, getD, take, drop, length-append, length-set, drop-of-length-le}
 use lib.Seq.{drop-cons, getD-set-same, getD-set-other, append-snoc}
 use borrow.Author.Tests.{eq-eqb}
 use Rattle.threads.specs.declared.Threads.{Threads}
-use Rattle.threads.specs.Threads.{hd, lst, after, before, count, counts, row, threaded, Apart, queueIn, queuesOf, Sound}
+use Rattle.threads.specs.Threads.{hd, lst, after, before, count, counts, row, threaded, Apart, queueIn, queuesOf, Sound, BLOCKS, QUEUES, noQueue}
 use Rattle.threads.proofs.Lists.{count-nil, count-append, count-hit, count-past, count-one, after-none, before-none, lst-append}
 use Rattle.words.proofs.Truth.{tested, and-of}
 use Rattle.threads.proofs.Rows.{row-at}
@@ -23,7 +23,7 @@ use Rattle.words.specs.Words.{oneTo}
 use Rattle.threads.proofs.Tests.{of-all, to-top}
 use Rattle.pointers.proofs.Found.{unmarked, counts-nil}
 use Rattle.pointers.proofs.Passes.{passes, end-all, end-one, one-block}
-use Rattle.pointers.specs.Walked.{clearAt, restClear}
+use Rattle.pointers.specs.Walked.{clearAt, restClear, steps, noMarks, lastQueue}
 
 -- ---- counts, by where a list stands among the lists
 
@@ -68,7 +68,7 @@ unfolding together flat
 length-flat [] = refl
 length-flat (l ∷ ls) = omega (arith, length-append l (0 ∷ flat ls), length-append l (together ls), length-flat ls)
 
-pub flat-short : (ls : List (List ℕ)) → Apart ls → length (flat ls) ≤ 50
+pub flat-short : (ls : List (List ℕ)) → Apart ls → length (flat ls) ≤ steps
 flat-short ls a =
     omega (
       arith,
@@ -80,7 +80,7 @@ flat-short ls a =
 
 -- ---- a block of no queue
 
-clear-shown : (t : Threads) (m : List ℕ) (y : ℕ) → (getD m y 0 ≡ 9 → (getD (t .fwd) y 0 ≡ 0) × (getD (t .back) y 0 ≡ 0)) → clearAt t m y ≡ true
+clear-shown : (t : Threads) (m : List ℕ) (y : ℕ) → (getD m y 0 ≡ noQueue → (getD (t .fwd) y 0 ≡ 0) × (getD (t .back) y 0 ≡ 0)) → clearAt t m y ≡ true
 unfolding clearAt
 clear-shown t m y h =
     ⊎-elim
@@ -89,7 +89,7 @@ clear-shown t m y h =
     (tested (getD m y 0) 9)
 
 module _ (t : Threads) (s : Sound t) where
-  loose : (z : ℕ) → 1 ≤ z → z ≤ 40 → counts z (queuesOf t) ≡ 0 → (getD (t .fwd) z 0 ≡ 0) × (getD (t .back) z 0 ≡ 0)
+  loose : (z : ℕ) → 1 ≤ z → z ≤ BLOCKS → counts z (queuesOf t) ≡ 0 → (getD (t .fwd) z 0 ≡ 0) × (getD (t .back) z 0 ≡ 0)
   loose z a b n =
       let ls = queuesOf t in
       let none : count z (flat ls) ≡ 0 = count-flat z ls a ∙ n in (
@@ -101,22 +101,22 @@ module _ (t : Threads) (s : Sound t) where
   unfolding threaded row
   slot = (ap (λ (u : Threads). getD (u .fwd) 0 0) (s .canon), ap (λ (u : Threads). getD (u .back) 0 0) (s .canon))
 
-  rest-holds : (m : List ℕ) → ((z : ℕ) → 1 ≤ z → z ≤ 40 → getD m z 0 ≡ 9 → counts z (queuesOf t) ≡ 0) → restClear t m ≡ true
+  rest-holds : (m : List ℕ) → ((z : ℕ) → 1 ≤ z → z ≤ BLOCKS → getD m z 0 ≡ noQueue → counts z (queuesOf t) ≡ 0) → restClear t m ≡ true
   unfolding restClear
   rest-holds m h =
       and-of _ _ (clear-shown t m 0 (λ e. slot))
-      (of-all (clearAt t m) (oneTo 40)
+      (of-all (clearAt t m) (oneTo BLOCKS)
       (λ y k. let o = to-top 40 y k in clear-shown t m y (λ e. loose y (o .0) (o .1) (h y (o .0) (o .1) e))))
 
   -- what is ahead has no mark, and what is behind has one
-  goes : (n q : ℕ) (A B m : List ℕ) → q ≤ 8 → queueIn (queuesOf t) q ≡ A ++ B → length (B ++ 0 ∷ flat (drop (suc q) (queuesOf t))) ≤ n → length m ≡ 41
-      → ((z : ℕ) → 1 ≤ count z B + counts z (drop (suc q) (queuesOf t)) → getD m z 0 ≡ 9)
-      → ((z : ℕ) → 1 ≤ z → z ≤ 40 → getD m z 0 ≡ 9 → counts z (take q (queuesOf t)) + count z A ≡ 0)
+  goes : (n q : ℕ) (A B m : List ℕ) → q ≤ lastQueue → queueIn (queuesOf t) q ≡ A ++ B → length (B ++ 0 ∷ flat (drop (suc q) (queuesOf t))) ≤ n → length m ≡ suc BLOCKS
+      → ((z : ℕ) → 1 ≤ count z B + counts z (drop (suc q) (queuesOf t)) → getD m z 0 ≡ noQueue)
+      → ((z : ℕ) → 1 ≤ z → z ≤ BLOCKS → getD m z 0 ≡ noQueue → counts z (take q (queuesOf t)) + count z A ≡ 0)
       → passes t n q (lst 0 A) (hd B) m ≡ true
   goes zero q A B m h e k l ahead behind = absurd (omega (arith, length-append B (0 ∷ flat (drop (suc q) (queuesOf t)))))
   goes (suc n) q A [] m h e k l ahead behind =
       let ls = queuesOf t in
-      let nine : length ls ≡ 9 = s .apart .nine in
+      let nine : length ls ≡ QUEUES = s .apart .nine in
       let last : getD (t .last) q 0 ≡ lst 0 A = last-of t s q (omega arith) ∙ ap (lst 0) (e ∙ append-nil A) in
       let all : (z : ℕ) → count z (queueIn ls q) ≡ count z A = λ z. ap (count z) (e ∙ append-nil A) in
       ⊎-elim
@@ -126,7 +126,7 @@ module _ (t : Threads) (s : Sound t) where
       omega (arith, counts-at z ls q (omega arith), all z, behind z a b f, counts-out z ls q (omega (arith, v .1)))))
       (λ v.
       let less : suc n - 1 ≡ n = omega arith in
-      let low : suc q ≤ 8 = omega (arith, v .1) in
+      let low : suc q ≤ lastQueue = omega (arith, v .1) in
       end-one t q (lst 0 A) 0 m (suc n) (omega arith) refl last (v .1)
       ∙ rw (less, add-one q, first-of t s (suc q) (omega arith))
       (goes n (suc q) [] (queueIn ls (suc q)) m low refl
@@ -136,7 +136,7 @@ module _ (t : Threads) (s : Sound t) where
       (tested q 8)
   goes (suc n) q A (b ∷ B) m h e k l ahead behind =
       let ls = queuesOf t in
-      let nine : length ls ≡ 9 = s .apart .nine in
+      let nine : length ls ≡ QUEUES = s .apart .nine in
       let less : suc n - 1 ≡ n = omega arith in
       let all : (z : ℕ) → count z (queueIn ls q) ≡ count z A + count z (b ∷ B) = λ z. ap (count z) e ∙ count-append z A (b ∷ B) in
       let mem = member ls (s .apart) q (omega arith) b (omega (arith, all b, count-hit b b B refl)) in
@@ -162,12 +162,12 @@ module _ (t : Threads) (s : Sound t) where
       ))
       (tested b z))))
 
-  pub sound-passes : passes t 50 0 0 (getD (t .first) 0 0) (replicate 41 9) ≡ true
+  pub sound-passes : passes t steps 0 0 (getD (t .first) 0 0) noMarks ≡ true
   sound-passes =
       let ls = queuesOf t in
-      let nine : length ls ≡ 9 = s .apart .nine in
+      let nine : length ls ≡ QUEUES = s .apart .nine in
       rw (first-of t s 0 (omega arith))
-      (goes 50 0 [] (queueIn ls 0) (replicate 41 9) (omega arith) refl
+      (goes steps 0 [] (queueIn ls 0) noMarks (omega arith) refl
       (omega (arith, ap length (flat-drop ls 0 (omega arith)), flat-short ls (s .apart))) refl
       (λ z h. unmarked z (s .apart .inside z (omega (arith, counts-drop z ls 0 (omega arith))) .1))
       (λ z a b h. omega (arith, count-nil z, counts-nil z)))

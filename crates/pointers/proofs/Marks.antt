@@ -7,12 +7,12 @@ use Prim.Native.Nat.{ℕ, zero, suc, _+_, _-_, _≤_, _<_}
 use native.Mathlib.Numerals.{add-one}
 use native.Mathlib.Omega.{arith}
 use native.Mathlib.Nat.{not-suc-le-zero, le-of-suc-le-suc, eq-zero-or-pos}
-use lib.ListN.{length, set, getD, take, drop, replicate, length-append, length-set}
+use lib.ListN.{length, set, getD, take, drop, length-append, length-set}
 use lib.Seq.{getD-set-same, getD-set-other, append-snoc}
 use lib.Dec.{eqb}
 use borrow.Author.Tests.{eq-eqb, ne-eqb}
 use Rattle.threads.specs.declared.Threads.{Threads}
-use Rattle.threads.specs.Threads.{hd, count, counts, queueIn, queuesOf, Sound}
+use Rattle.threads.specs.Threads.{hd, count, counts, queueIn, queuesOf, Sound, BLOCKS, QUEUES, noQueue}
 use Rattle.threads.proofs.Lists.{count-nil, count-append, count-hit, count-past, count-one, absent-head}
 use Rattle.words.proofs.Truth.{tested}
 use Rattle.threads.proofs.Flat.{flat}
@@ -25,11 +25,11 @@ use Rattle.pointers.proofs.Found.{Lengths, unmarked}
 use Rattle.pointers.proofs.Goes.{counts-at, counts-take, flat-drop, flat-short}
 use Rattle.pointers.proofs.Decided.{decided}
 use Rattle.pointers.proofs.Passes.{passes, end-all, end-one, one-block}
-use Rattle.pointers.specs.Walked.{restClear, noMarks, marksTold, Walks}
+use Rattle.pointers.specs.Walked.{restClear, noMarks, marksTold, Walks, steps, lastQueue}
 
 pub record Marks (t : Threads) (m : List ℕ) : Type 0 where
-  pub inside : (q y : ℕ) → q < 9 → 1 ≤ count y (queueIn (queuesOf t) q) → getD m y 0 ≡ q
-  pub outside : (y : ℕ) → y ≤ 40 → counts y (queuesOf t) ≡ 0 → getD m y 0 ≡ 9
+  pub inside : (q y : ℕ) → q < QUEUES → 1 ≤ count y (queueIn (queuesOf t) q) → getD m y 0 ≡ q
+  pub outside : (y : ℕ) → y ≤ BLOCKS → counts y (queuesOf t) ≡ 0 → getD m y 0 ≡ noQueue
 
 -- the marks at the end of the walk from y on
 unfoldable pub ends : Threads → ℕ → ℕ → ℕ → List ℕ → List ℕ
@@ -39,7 +39,7 @@ ends t (suc n) q y m =
     else ends t n q (getD (t .fwd) y 0) (set m y q)
 
 module _ (t : Threads) (q y : ℕ) (m : List ℕ) where
-  pub ends-all : (n : ℕ) → y ≡ 0 → q ≡ 8 → ends t n q y m ≡ m
+  pub ends-all : (n : ℕ) → y ≡ 0 → q ≡ lastQueue → ends t n q y m ≡ m
   unfolding ends
   ends-all zero e k = refl
   ends-all (suc n) e k = rw (eq-eqb y 0 e, eq-eqb q 8 k)
@@ -62,15 +62,15 @@ in-take z (l ∷ ls) zero (suc q) h k = omega arith
 in-take z (l ∷ ls) (suc j) (suc q) h k = omega (arith, in-take z ls j q (le-of-suc-le-suc h) (le-of-suc-le-suc k))
 
 module _ (t : Threads) (s : Sound t) where
-  leaves : (n q : ℕ) (A B m : List ℕ) → q ≤ 8 → queueIn (queuesOf t) q ≡ A ++ B → length (B ++ 0 ∷ flat (drop (suc q) (queuesOf t))) ≤ n → length m ≡ 41
+  leaves : (n q : ℕ) (A B m : List ℕ) → q ≤ lastQueue → queueIn (queuesOf t) q ≡ A ++ B → length (B ++ 0 ∷ flat (drop (suc q) (queuesOf t))) ≤ n → length m ≡ suc BLOCKS
       → ((j z : ℕ) → j < q → 1 ≤ count z (queueIn (queuesOf t) j) → getD m z 0 ≡ j)
       → ((z : ℕ) → 1 ≤ count z A → getD m z 0 ≡ q)
-      → ((z : ℕ) → z ≤ 40 → counts z (take q (queuesOf t)) + count z A ≡ 0 → getD m z 0 ≡ 9)
+      → ((z : ℕ) → z ≤ BLOCKS → counts z (take q (queuesOf t)) + count z A ≡ 0 → getD m z 0 ≡ noQueue)
       → Marks t (ends t n q (hd B) m)
   leaves zero q A B m h e k l done now none = absurd (omega (arith, length-append B (0 ∷ flat (drop (suc q) (queuesOf t)))))
   leaves (suc n) q A [] m h e k l done now none =
       let ls = queuesOf t in
-      let nine : length ls ≡ 9 = s .apart .nine in
+      let nine : length ls ≡ QUEUES = s .apart .nine in
       let all : (z : ℕ) → count z (queueIn ls q) ≡ count z A = λ z. ap (count z) (e ∙ append-nil A) in
       let upto : (j z : ℕ) → j < suc q → 1 ≤ count z (queueIn ls j) → getD m z 0 ≡ j =
       λ j z f g.
@@ -87,7 +87,7 @@ module _ (t : Threads) (s : Sound t) where
       }))
       (λ v.
       let less : suc n - 1 ≡ n = omega arith in
-      let low : suc q ≤ 8 = omega (arith, v .1) in
+      let low : suc q ≤ lastQueue = omega (arith, v .1) in
       rw (ends-one t q 0 m (suc n) (omega arith) refl (v .1))
       (rw (less, add-one q, first-of t s (suc q) (omega arith))
       (leaves n (suc q) [] (queueIn ls (suc q)) m low refl
@@ -98,7 +98,7 @@ module _ (t : Threads) (s : Sound t) where
       (tested q 8)
   leaves (suc n) q A (b ∷ B) m h e k l done now none =
       let ls = queuesOf t in
-      let nine : length ls ≡ 9 = s .apart .nine in
+      let nine : length ls ≡ QUEUES = s .apart .nine in
       let less : suc n - 1 ≡ n = omega arith in
       let all : (z : ℕ) → count z (queueIn ls q) ≡ count z A + count z (b ∷ B) = λ z. ap (count z) e ∙ count-append z A (b ∷ B) in
       let mem = member ls (s .apart) q (omega arith) b (omega (arith, all b, count-hit b b B refl)) in
@@ -123,12 +123,12 @@ module _ (t : Threads) (s : Sound t) where
       (λ w. getD-set-other m b z q 0 (λ x. w .1 (sym x)) ∙ none z a (omega (arith, count-append z A (b ∷ []))))
       (tested b z))))
 
-  all-marked : Marks t (ends t 50 0 (getD (t .first) 0 0) (replicate 41 9))
+  all-marked : Marks t (ends t steps 0 (getD (t .first) 0 0) noMarks)
   all-marked =
       let ls = queuesOf t in
-      let nine : length ls ≡ 9 = s .apart .nine in
+      let nine : length ls ≡ QUEUES = s .apart .nine in
       rw (first-of t s 0 (omega arith))
-      (leaves 50 0 [] (queueIn ls 0) (replicate 41 9) (omega arith) refl
+      (leaves steps 0 [] (queueIn ls 0) noMarks (omega arith) refl
       (omega (arith, ap length (flat-drop ls 0 (omega arith)), flat-short ls (s .apart))) refl
       (λ j z f g. absurd (omega arith))
       (λ z f. absurd (omega (arith, count-nil z)))
@@ -171,7 +171,7 @@ some-queue y (l ∷ ls) h =
     (eq-zero-or-pos (count y l))
 
 -- a block that stands in a queue is one of its list
-module _ (t : Threads) (s : Sound t) (q : ℕ) (h : q < 9) where
+module _ (t : Threads) (s : Sound t) (q : ℕ) (h : q < QUEUES) where
   pub stands-here : (y : ℕ) → standing y (queuesOf t) ≡ q → 1 ≤ count y (queueIn (queuesOf t) q)
   stands-here y e =
       let ls = queuesOf t in
@@ -184,7 +184,7 @@ module _ (t : Threads) (s : Sound t) (q : ℕ) (h : q < 9) where
       (eq-zero-or-pos (counts y ls))
 
 -- the marks are where the blocks stand
-pub marks-standing : {t : Threads} {m : List ℕ} → Sound t → Marks t m → (y : ℕ) → y ≤ 40 → getD m y 0 ≡ standing y (queuesOf t)
+pub marks-standing : {t : Threads} {m : List ℕ} → Sound t → Marks t m → (y : ℕ) → y ≤ BLOCKS → getD m y 0 ≡ standing y (queuesOf t)
 marks-standing {t} {m} s k y h =
     let ls = queuesOf t in
     ⊎-elim
@@ -197,13 +197,13 @@ marks-standing {t} {m} s k y h =
 -- ---- for the code's loop: what is left of the walk gives what the whole gives
 
 pub record Walking (t : Threads) (m : List ℕ) (q p y n : ℕ) : Type 0 where
-  pub low : q ≤ 8
-  pub long : length m ≡ 41
+  pub low : q ≤ lastQueue
+  pub long : length m ≡ suc BLOCKS
   pub sizes : Lengths t
   pub same : passes t n q p y m ≡ pointersSound t
-  pub marks : ends t n q y m ≡ ends t 50 0 (getD (t .first) 0 0) (replicate 41 9)
+  pub marks : ends t n q y m ≡ ends t steps 0 (getD (t .first) 0 0) noMarks
 
-pub walking-start : (t : Threads) → Lengths t → Walking t (replicate 41 9) 0 0 (getD (t .first) 0 0) 50
+pub walking-start : (t : Threads) → Lengths t → Walking t noMarks 0 0 (getD (t .first) 0 0) steps
 walking-start t s = record { low = omega arith; long = refl; sizes = s; same = decided t s; marks = refl }
 
 module _ {t : Threads} {m : List ℕ} {q p y n : ℕ} (w : Walking t m q p y n) where
@@ -218,7 +218,7 @@ module _ {t : Threads} {m : List ℕ} {q p y n : ℕ} (w : Walking t m q p y n) 
         many = refl;
       }
 
-  walks-all : y ≡ 0 → q ≡ 8 → true ≡ pointersSound t → Walks t true m
+  walks-all : y ≡ 0 → q ≡ lastQueue → true ≡ pointersSound t → Walks t true m
   walks-all e k h =
       let s = sound-of t (nine-queues t (w .sizes .first)) (sym h) in
       record {
@@ -229,14 +229,14 @@ module _ {t : Threads} {m : List ℕ} {q p y n : ℕ} (w : Walking t m q p y n) 
         many = w .long;
       }
 
-  walks-told : (ok : Bool) → y ≡ 0 → q ≡ 8 → ok ≡ pointersSound t → Walks t ok (marksTold ok m)
+  walks-told : (ok : Bool) → y ≡ 0 → q ≡ lastQueue → ok ≡ pointersSound t → Walks t ok (marksTold ok m)
   walks-told true e k h = walks-all e k h
   walks-told false e k h = walks-not h
 
   pub walking-not : passes t n q p y m ≡ false → Walks t false noMarks
   walking-not f = walks-not (sym f ∙ w .same)
 
-  pub walking-end : {ok : Bool} → n ≢ 0 → y ≡ 0 → getD (t .last) q 0 ≡ p → q ≡ 8 → ok ≡ restClear t m → Walks t ok (marksTold ok m)
+  pub walking-end : {ok : Bool} → n ≢ 0 → y ≡ 0 → getD (t .last) q 0 ≡ p → q ≡ lastQueue → ok ≡ restClear t m → Walks t ok (marksTold ok m)
   walking-end {ok} o e l k f = walks-told ok e k (f ∙ sym (end-all t q p y m n o e l k) ∙ w .same)
 
   pub walking-queue : n ≢ 0 → y ≡ 0 → getD (t .last) q 0 ≡ p → q ≢ 8 → Walking t m (q + 1) 0 (getD (t .first) (q + 1) 0) (n - 1)
@@ -249,7 +249,7 @@ module _ {t : Threads} {m : List ℕ} {q p y n : ℕ} (w : Walking t m q p y n) 
         marks = sym (ends-one t q y m n o e k) ∙ w .marks;
       }
 
-  pub walking-block : n ≢ 0 → y ≢ 0 → y ≤ 40 → getD m y 0 ≡ 9 → getD (t .back) y 0 ≡ p → Walking t (set m y q) q y (getD (t .fwd) y 0) (n - 1)
+  pub walking-block : n ≢ 0 → y ≢ 0 → y ≤ BLOCKS → getD m y 0 ≡ noQueue → getD (t .back) y 0 ≡ p → Walking t (set m y q) q y (getD (t .fwd) y 0) (n - 1)
   walking-block o e b k l =
       record {
         low = w .low;

@@ -12,7 +12,8 @@ use Rattle.threads.specs.declared.Threads.{Threads}
 use Rattle.words.specs.Words.{if_then_else_, oneTo, allOf}
 use Rattle.words.proofs.Truth.{and-assoc, and-true}
 use Rattle.words.proofs.OneTo.{gather-next}
-use Rattle.pointers.specs.Walked.{clearAt, restClear}
+use Rattle.pointers.specs.Walked.{clearAt, restClear, lastQueue}
+use Rattle.threads.specs.Threads.{BLOCKS, noQueue}
 
 -- From the block y of the queue q on, p the block before it, m the marks so far, in at most n steps: each block is one of 1 to 40, has no
 -- mark yet and points back to the one before it; the last of each queue is the queue's last; after all queues, the rest is clear.
@@ -48,7 +49,7 @@ module _ (t : Threads) (q p y : ℕ) (m : List ℕ) where
   end-wrong zero h e d = refl
   end-wrong (suc n) h e d = rw (eq-eqb y 0 e, ne-eqb _ p d)
 
-  pub end-all : (n : ℕ) → n ≢ 0 → y ≡ 0 → getD (t .last) q 0 ≡ p → q ≡ 8 → passes t n q p y m ≡ restClear t m
+  pub end-all : (n : ℕ) → n ≢ 0 → y ≡ 0 → getD (t .last) q 0 ≡ p → q ≡ lastQueue → passes t n q p y m ≡ restClear t m
   unfolding passes
   end-all zero h e d k = absurd (h refl)
   end-all (suc n) h e d k = rw (eq-eqb y 0 e, eq-eqb _ p d, eq-eqb q 8 k)
@@ -64,17 +65,17 @@ module _ (t : Threads) (q p y : ℕ) (m : List ℕ) where
   too-high zero e d = refl
   too-high (suc n) e d = rw (ne-eqb y 0 e, lt-leb y 40 d)
 
-  pub seen-twice : (n : ℕ) → y ≢ 0 → y ≤ 40 → getD m y 0 ≢ 9 → passes t n q p y m ≡ false
+  pub seen-twice : (n : ℕ) → y ≢ 0 → y ≤ BLOCKS → getD m y 0 ≢ 9 → passes t n q p y m ≡ false
   unfolding passes
   seen-twice zero e h d = refl
   seen-twice (suc n) e h d = rw (ne-eqb y 0 e, le-leb y 40 h, ne-eqb _ 9 d)
 
-  pub wrong-back : (n : ℕ) → y ≢ 0 → y ≤ 40 → getD m y 0 ≡ 9 → getD (t .back) y 0 ≢ p → passes t n q p y m ≡ false
+  pub wrong-back : (n : ℕ) → y ≢ 0 → y ≤ BLOCKS → getD m y 0 ≡ noQueue → getD (t .back) y 0 ≢ p → passes t n q p y m ≡ false
   unfolding passes
   wrong-back zero e h k d = refl
   wrong-back (suc n) e h k d = rw (ne-eqb y 0 e, le-leb y 40 h, eq-eqb (getD m y 0) 9 k, ne-eqb _ p d)
 
-  pub one-block : (n : ℕ) → n ≢ 0 → y ≢ 0 → y ≤ 40 → getD m y 0 ≡ 9 → getD (t .back) y 0 ≡ p
+  pub one-block : (n : ℕ) → n ≢ 0 → y ≢ 0 → y ≤ BLOCKS → getD m y 0 ≡ noQueue → getD (t .back) y 0 ≡ p
       → passes t n q p y m ≡ passes t (n - 1) q y (getD (t .fwd) y 0) (set m y q)
   unfolding passes
   one-block zero o e h k d = absurd (o refl)

@@ -12,10 +12,11 @@ use Rattle.meaning.specs.Rules.{pointersSound}
 use Rattle.pointers.specs.declared.Standing.{Standing}
 use Rattle.pointers.specs.Walked.{Walks}
 use Rattle.pointers.proofs.walked.Reads as walked
+use Rattle.threads.specs.Threads.{BLOCKS}
 
 module _ {t : Threads} {ok ok′ : Bool} {m m′ : List ℕ} (p : Walks t ok m) (q : Walks t ok′ m′) where
   marks-once : (b : Bool) → pointersSound t ≡ b → m ≡ m′
-  marks-once true e = ext-getD 0 m m′ (p .many ∙ sym (q .many)) (λ y h. let low : y ≤ 40 = omega (arith, p .many) in p .stands e y low ∙ sym (q .stands e y low))
+  marks-once true e = ext-getD 0 m m′ (p .many ∙ sym (q .many)) (λ y h. let low : y ≤ BLOCKS = omega (arith, p .many) in p .stands e y low ∙ sym (q .stands e y low))
   marks-once false e = p .none e ∙ sym (q .none e)
 
 abbrev whole : Bool → List ℕ → Standing

@@ -4,39 +4,53 @@
 // pointers, and nothing of what a block holds.
 ghost use mathlib.Core.Path.{_≡_};
 ghost use Rattle.pointers.specs.Walked.{clearBy, restClear, marksTold, Walks};
+use threads::BLOCKS;
+use threads::CELLS;
+use threads::QUEUES;
 use threads::Threads;
+
+// The mark of a block that is in no queue.
+pub const NO_QUEUE: u8 = QUEUES as u8;
+
+// The last block, and the last queue.
+const LAST_BLOCK: u8 = BLOCKS as u8;
+
+const LAST_QUEUE: u8 = QUEUES as u8 - 1;
+
+// A walk meets each block once, and the end of each queue.
+const STEPS: u8 = (BLOCKS + QUEUES) as u8 + 1;
 
 // A block that is marked with no queue has pointers of zero.
 fn clear(mark: u8, fwd: u8, back: u8) -> bool
     ensures { λ r. ⌜ r ≡ clearBy mark fwd back ⌝ }
 {
-    !(mark == 9) | ((fwd == 0) & (back == 0))
+    !(mark == NO_QUEUE) | ((fwd == 0) & (back == 0))
 }
 
 // Every block that has no mark, and slot 0, has pointers of zero.
-fn rest_clear(t: Threads, marks: [u8; 41]) -> bool
+fn rest_clear(t: Threads, marks: [u8; CELLS]) -> bool
     ensures { λ r. ⌜ r ≡ restClear t marks ⌝ }
 {
     let mut right = clear(marks[0], t.fwd[0], t.back[0]);
     let mut i: u8 = 0;
-    while i < 40 {
+    while i < LAST_BLOCK {
         i += 1;
         right = right & clear(marks[i as usize], t.fwd[i as usize], t.back[i as usize]);
     }
     right
 }
 
-// Whether the pointers are sound; and the queue of each block, 9 for none. Where they are not sound, no block stands in a queue.
+// Whether the pointers are sound; and the queue of each block. Where they are not sound, no block stands in a queue.
 pub struct Standing {
     pub sound: bool,
-    pub marks: [u8; 41],
+    pub marks: [u8; CELLS],
 }
 
 // The two as one answer.
-fn told(sound: bool, marks: [u8; 41]) -> Standing
+fn told(sound: bool, marks: [u8; CELLS]) -> Standing
     ensures { λ r. ⌜ r ≡ record { sound = sound; marks = marksTold sound marks } ⌝ }
 {
-    let mut given: [u8; 41] = [9; 41];
+    let mut given: [u8; CELLS] = [NO_QUEUE; CELLS];
     if sound {
         given = marks;
     }
@@ -51,18 +65,18 @@ fn told(sound: bool, marks: [u8; 41]) -> Standing
 pub fn walked(t: Threads) -> Standing
     ensures { λ r. ⌜ Walks t (r .sound) (r .marks) ⌝ }
 {
-    let mut marks: [u8; 41] = [9; 41];
+    let mut marks: [u8; CELLS] = [NO_QUEUE; CELLS];
     let mut q: u8 = 0;
     let mut p: u8 = 0;
     let mut y: u8 = t.first[0];
-    let mut n: u8 = 50;
+    let mut n: u8 = STEPS;
     while n != 0 {
         n -= 1;
         if y == 0 {
             if t.last[q as usize] != p {
                 return told(false, marks);
             }
-            if q == 8 {
+            if q == LAST_QUEUE {
                 return told(rest_clear(t, marks), marks);
             }
             q += 1;
@@ -70,10 +84,10 @@ pub fn walked(t: Threads) -> Standing
             y = t.first[q as usize];
             continue;
         }
-        if 40 < y {
+        if LAST_BLOCK < y {
             return told(false, marks);
         }
-        if marks[y as usize] != 9 {
+        if marks[y as usize] != NO_QUEUE {
             return told(false, marks);
         }
         if t.back[y as usize] != p {

@@ -10,12 +10,13 @@ use borrow.Author.Tests.{eq-eqb, ltb-false, ltb-true}
 use Rattle.words.proofs.Truth.{tested, both}
 use Rattle.tables.specs.State.{State, taskAt}
 use Rattle.meaning.specs.Rules.{upward}
+use Rattle.tables.specs.Blocks.{taskBlocks}
 
 -- y is n steps above the task k
 pub record Above (s : State) (k n y : ℕ) : Type 0 where
   pub at : y ≡ upward s n k
-  pub steps : n ≤ 24
-  pub low : y ≤ 24
+  pub steps : n ≤ taskBlocks
+  pub low : y ≤ taskBlocks
 
 -- a step more is done
 pub steps-left : (y n : ℕ) → (not (eqb y 0) && ltb n 24) ≡ true → n < 24
@@ -32,12 +33,12 @@ module _ (s : State) where
   upward-none e zero = refl
   upward-none e (suc n) = rw e (upward-none e n)
 
-  pub above-start : (k : ℕ) → taskAt s k .parent ≤ 24 → Above s k 1 (taskAt s k .parent)
+  pub above-start : (k : ℕ) → taskAt s k .parent ≤ taskBlocks → Above s k 1 (taskAt s k .parent)
   unfolding upward
   above-start k h = record { at = refl; steps = omega arith; low = h }
 
   module _ {k n y : ℕ} (a : Above s k n y) where
-    pub above-next : (not (eqb y 0) && ltb n 24) ≡ true → taskAt s y .parent ≤ 24 → Above s k (n + 1) (taskAt s y .parent)
+    pub above-next : (not (eqb y 0) && ltb n 24) ≡ true → taskAt s y .parent ≤ taskBlocks → Above s k (n + 1) (taskAt s y .parent)
     unfolding upward
     above-next e h =
         record {

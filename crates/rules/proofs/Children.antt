@@ -19,6 +19,7 @@ use Rattle.threads.proofs.Tests.{all-to, to-all}
 use Rattle.rules.specs.Links.{Tally, Exact, Waiters, childOf, alone}
 use Rattle.fields.proofs.Owners.{eqb-swap}
 use Rattle.rules.proofs.Tally.{met, met-none, tally-end, tally-half}
+use Rattle.tables.specs.Blocks.{taskBlocks}
 
 alone-has : (place k u : ℕ) → has (alone place k) u ≡ (eqb place 6 && eqb k u)
 alone-has place k u = ⊎-elim (λ z. rw (z .0) (has-adding 0 k u ∙ rw (has-none u) (eqb-swap u k))) (λ z. rw (z .0) (has-none u)) (tested place 6)
@@ -57,7 +58,7 @@ module _ (s : State) where
       }
 
   abbrev linkedAt : ℕ → Bool
-  linkedAt k = eqb (howMany (childOf s k) (oneTo 24)) (if eqb (taskAt s k .place) 6 then 1 else 0)
+  linkedAt k = eqb (howMany (childOf s k) (oneTo taskBlocks)) (if eqb (taskAt s k .place) 6 then 1 else 0)
 
   abbrev metAt : ℕ → ℕ → Bool
   metAt waits u = met (λ u. childOf s (suc u)) 24 (waits / 2) u
@@ -65,7 +66,7 @@ module _ (s : State) where
   same-at : {waits : ℕ} → Waiters s 24 waits → (u : ℕ) → u < 24 → metAt waits u ≡ linkedAt (suc u)
   same-at {waits} w u h = rw (← has-next waits u, w .at (suc u) (omega arith), le-leb (suc u) 24 (omega arith))
 
-  pub linked-end : {one two waits : ℕ} {r : Bool} → ((k : ℕ) → k ≤ 24 → taskAt s k .parent ≤ 24) → Tally (childOf s) 24 one two → Waiters s 24 waits
+  pub linked-end : {one two waits : ℕ} {r : Bool} → ((k : ℕ) → k ≤ taskBlocks → taskAt s k .parent ≤ taskBlocks) → Tally (childOf s) 24 one two → Waiters s 24 waits
       → Exact (one / 2) (two / 2) (waits / 2) r → r ≡ linked s
   unfolding linked
   linked-end {one} {two} {waits} low t w x =
@@ -79,6 +80,6 @@ module _ (s : State) where
       (under-or-from u 24))
       (λ f. to-all linkedAt 24 (below f))
     where
-      below : ((u : ℕ) → metAt waits u ≡ true) → (y : ℕ) → 1 ≤ y → y ≤ 24 → linkedAt y ≡ true
+      below : ((u : ℕ) → metAt waits u ≡ true) → (y : ℕ) → 1 ≤ y → y ≤ taskBlocks → linkedAt y ≡ true
       below f zero a b = absurd (omega arith)
       below f (suc u) a b = sym (same-at w u (omega arith)) ∙ f u

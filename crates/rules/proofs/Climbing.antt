@@ -10,7 +10,7 @@ use lib.ListN.{length, getD}
 use lib.Dec.{leb}
 use borrow.Author.Tests.{le-leb}
 use Rattle.threads.specs.declared.Threads.{Threads}
-use Rattle.threads.specs.Threads.{hd, count, walk, queueIn, queuesOf, Sound}
+use Rattle.threads.specs.Threads.{hd, count, walk, queueIn, queuesOf, Sound, BLOCKS, QUEUES}
 use Rattle.threads.proofs.Laws.{member}
 use Rattle.threads.proofs.Read.{first-of}
 use Rattle.threads.proofs.Lists.{count-append}
@@ -21,6 +21,7 @@ use Rattle.rules.proofs.Places.{tasks-of, requests-of, owner-low, modul
 use Rattle.rules.specs.Orderly.{Orderly}
 use Rattle.tables.specs.declared.Tables.{Tables}
 use Rattle.tables.specs.State.{taskAt, requestAt, read}
+use Rattle.tables.specs.Blocks.{taskBlocks}
 
 -- the list goes up by `key`, and from `least` on
 unfoldable pub upFrom : (ℕ → ℕ) → ℕ → List ℕ → Bool
@@ -44,7 +45,7 @@ pub record Climbing (t : Threads) (key : ℕ → ℕ) (q y least : ℕ) (right :
   pub at : y ≡ hd rest
   pub same : (right && upFrom key least rest) ≡ upBy key (queueIn (queuesOf t) q)
 
-module _ {t : Threads} (s : Sound t) (key : ℕ → ℕ) (q : ℕ) (h : q < 9) where
+module _ {t : Threads} (s : Sound t) (key : ℕ → ℕ) (q : ℕ) (h : q < QUEUES) where
   pub climbing-start : Climbing t key q (getD (t .first) q 0) 0 true
   climbing-start =
       record { front = []; rest = queueIn (queuesOf t) q; split = refl; at = first-of t s q h; same = up-all key (queueIn (queuesOf t) q) }
@@ -83,13 +84,13 @@ module _ {t : Threads} (s : Sound t) (key : ℕ → ℕ) (q : ℕ) (h : q < 9) w
 -- ---- of orderly tables: what stands at a turn is a task block of the time queue, or a request block of the channel queue
 
 module _ {t : Tables} (o : Orderly t) {key : ℕ → ℕ} {y least : ℕ} {right : Bool} where
-  pub time-low : Climbing (t .threads) key 7 y least right → y ≢ 0 → y ≤ 24
+  pub time-low : Climbing (t .threads) key 7 y least right → y ≢ 0 → y ≤ taskBlocks
   time-low c n = tasks-of t o 7 y (omega arith) (climbing-member (o .sound) key 7 (omega arith) c n) .1
 
-  pub channel-low : Climbing (t .threads) key 8 y least right → y ≢ 0 → (25 ≤ y) × (y ≤ 40)
+  pub channel-low : Climbing (t .threads) key 8 y least right → y ≢ 0 → (25 ≤ y) × (y ≤ BLOCKS)
   channel-low c n = requests-of t o y (climbing-member (o .sound) key 8 (omega arith) c n)
 
-  pub asker-low : Climbing (t .threads) key 8 y least right → y ≢ 0 → requestAt (read t) (y - 24) .owner ≤ 24
+  pub asker-low : Climbing (t .threads) key 8 y least right → y ≢ 0 → requestAt (read t) (y - 24) .owner ≤ taskBlocks
   asker-low c n = let i = channel-low c n in owner-low t o (y - 24) (omega arith) (omega arith)
 
   pub asker-module : Climbing (t .threads) key 8 y least right → y ≢ 0 → taskAt (read t) (requestAt (read t) (y - 24) .owner) .program < 32

@@ -10,7 +10,7 @@ use lib.Dec.{eqb}
 use borrow.Author.Tests.{leb-true, le-leb}
 use Rattle.words.proofs.Truth.{tested, and-of, both, same-bool}
 use Rattle.words.specs.Words.{_implies_, oneTo, someOf, has}
-use Rattle.tables.specs.Blocks.{Free, InCheck, Ending}
+use Rattle.tables.specs.Blocks.{Free, InCheck, Ending, taskBlocks, requestBlocks}
 use Rattle.tables.specs.State.{State, taskAt, requestAt}
 use Rattle.meaning.specs.Conditions.{undefinedIn}
 use Rattle.meaning.specs.Ready.{needsCore}
@@ -37,7 +37,7 @@ module _ (s : State) (k : ℕ) where
   checks = eqb (taskAt s k .place) InCheck implies pends k (requestAt s (taskAt s k .request))
 
   abbrev ends : Bool
-  ends = eqb (taskAt s k .place) Ending implies someOf (λ r. pends k (requestAt s r)) (oneTo 16)
+  ends = eqb (taskAt s k .place) Ending implies someOf (λ r. pends k (requestAt s r)) (oneTo requestBlocks)
 
   abbrev used : Bool
   used = not (eqb (requestAt s k .place) Free) implies usedBy (s .freeTasks) (requestAt s k .owner)
@@ -104,8 +104,8 @@ module _ (s : State) (k : ℕ) where
 
 -- ---- the owner of a request: its place says that it is used where the free set does
 
-module _ (s : State) (free : (k : ℕ) → 1 ≤ k → k ≤ 24 → taskFree s k ≡ true) (zero : blankTask (taskAt s 0) ≡ true) where
-  used-place : (n : ℕ) → n ≤ 24 → usedBy (s .freeTasks) n ≡ not (eqb (taskAt s n .place) Free)
+module _ (s : State) (free : (k : ℕ) → 1 ≤ k → k ≤ taskBlocks → taskFree s k ≡ true) (zero : blankTask (taskAt s 0) ≡ true) where
+  used-place : (n : ℕ) → n ≤ taskBlocks → usedBy (s .freeTasks) n ≡ not (eqb (taskAt s n .place) Free)
   used-place n h =
       ⊎-elim (λ e. rw (e .1, task-blank (taskAt s 0) zero))
       (λ e. let l : 1 ≤ n = omega (arith, e .1) in
@@ -128,7 +128,7 @@ pub record Passed (s : State) : Type 0 where
   pub freeSets : rules.freeSets s ≡ true
   pub fieldsClear : rules.fieldsClear s ≡ true
   pub coreNeeded : rules.coreNeeded s ≡ true
-  pub waiters : (k : ℕ) → 1 ≤ k → k ≤ 24 → waits s k ≡ true
+  pub waiters : (k : ℕ) → 1 ≤ k → k ≤ taskBlocks → waits s k ≡ true
   pub owned : rules.owned s ≡ true
   pub checksPending : rules.checksPending s ≡ true
   pub endingPending : rules.endingPending s ≡ true
@@ -156,8 +156,8 @@ module _ (s : State) where
       λ pool.
       λ requests.
       λ tasks.
-      let t : (k : ℕ) → 1 ≤ k → k ≤ 24 → TaskPasses s k = λ k l h. task-parts s k (all-to (taskPasses s) 24 tasks k l h) in
-      let r : (k : ℕ) → 1 ≤ k → k ≤ 16 → RequestPasses s k = λ k l h. request-parts s k (all-to (requestPasses s) 16 requests k l h) in
+      let t : (k : ℕ) → 1 ≤ k → k ≤ taskBlocks → TaskPasses s k = λ k l h. task-parts s k (all-to (taskPasses s) 24 tasks k l h) in
+      let r : (k : ℕ) → 1 ≤ k → k ≤ requestBlocks → RequestPasses s k = λ k l h. request-parts s k (all-to (requestPasses s) 16 requests k l h) in
       record {
         directoryPasses = directory;
         inRange =
@@ -197,8 +197,8 @@ module _ (s : State) where
         endingPending = to-all (ends s) 24 (λ k l h. t k l h .ending);
       })
 
-  module _ (p : Keeps s) (waiters : (k : ℕ) → 1 ≤ k → k ≤ 24 → waits s k ≡ true) where
-    task-passes : (k : ℕ) → 1 ≤ k → k ≤ 24 → TaskPasses s k
+  module _ (p : Keeps s) (waiters : (k : ℕ) → 1 ≤ k → k ≤ taskBlocks → waits s k ≡ true) where
+    task-passes : (k : ℕ) → 1 ≤ k → k ≤ taskBlocks → TaskPasses s k
     unfolding rules.tasksInPlace rules.coreNeeded rules.checksPending rules.endingPending pendingOf pending
     task-passes k l h =
         record {
@@ -212,7 +212,7 @@ module _ (s : State) where
           ending = all-to (ends s) 24 (p .endingPending) k l h;
         }
 
-    request-passes : (k : ℕ) → 1 ≤ k → k ≤ 16 → RequestPasses s k
+    request-passes : (k : ℕ) → 1 ≤ k → k ≤ requestBlocks → RequestPasses s k
     unfolding rules.requestsInPlace rules.owned
     request-passes k l h =
         let range = all-to (requestRange s) 16 (ranges s (p .inRange) .requests) k l h in

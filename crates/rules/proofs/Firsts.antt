@@ -7,7 +7,7 @@ use native.Mathlib.Omega.{arith}
 use lib.ListN.{getD}
 use lib.Dec.{eqb, ltb}
 use borrow.Author.Tests.{eq-eqb, ne-eqb}
-use Rattle.threads.specs.Threads.{hd, count}
+use Rattle.threads.specs.Threads.{hd, count, QUEUES}
 use Rattle.threads.proofs.Lists.{count-hit}
 use Rattle.threads.proofs.Read.{first-of}
 use Rattle.words.specs.Words.{_implies_, isEmpty, oneTo, allOf}
@@ -19,6 +19,7 @@ use Rattle.meaning.specs.Rules.{idleOnlyIfNoneReady, channelBusy}
 use Rattle.rules.specs.Orderly.{Orderly}
 use Rattle.rules.proofs.Places.{in-queue, tasks-of, module-low}
 use Rattle.rules.proofs.Waiters.{of-core}
+use Rattle.tables.specs.Blocks.{taskBlocks}
 
 pub three : (a b c : Bool) → (a && b && c) ≡ (a && (b && (c && true)))
 three true true true = refl
@@ -37,12 +38,12 @@ module _ (t : Tables) (o : Orderly t) where
   abbrev first : ℕ → ℕ
   first q = getD (t .threads .first) q 0
 
-  empty-is : (q : ℕ) (l : List ℕ) → q < 9 → queue s q ≡ l → eqb (hd l) 0 ≡ isEmpty l
+  empty-is : (q : ℕ) (l : List ℕ) → q < QUEUES → queue s q ≡ l → eqb (hd l) 0 ≡ isEmpty l
   empty-is q [] h e = refl
   empty-is q (a ∷ l) h e =
       let m = in-queue t o q a h (omega (arith, ap (count a) e, count-hit a a l refl)) in ne-eqb a 0 (omega (arith, m .1))
 
-  empty-told : (q : ℕ) → q < 9 → eqb (first q) 0 ≡ isEmpty (queue s q)
+  empty-told : (q : ℕ) → q < QUEUES → eqb (first q) 0 ≡ isEmpty (queue s q)
   empty-told q h = ap (λ (y : ℕ). eqb y 0) (first-of (t .threads) (o .sound) q h) ∙ empty-is q (queue s q) h refl
 
   pub busy-told : (not (eqb (t .running) 0) || (eqb (first 1) 0 && eqb (first 2) 0 && eqb (first 3) 0)) ≡ idleOnlyIfNoneReady s
@@ -59,11 +60,11 @@ module _ (t : Tables) (o : Orderly t) where
 
   -- ---- who waits first for core
 
-  first-low : (q : ℕ) (l : List ℕ) → q < 8 → queue s q ≡ l → hd l ≤ 24
+  first-low : (q : ℕ) (l : List ℕ) → q < 8 → queue s q ≡ l → hd l ≤ taskBlocks
   first-low q [] h e = omega arith
   first-low q (a ∷ l) h e = tasks-of t o q a h (omega (arith, ap (count a) e, count-hit a a l refl)) .1
 
-  pub waiter-low : (level : ℕ) → level ≤ 3 → first (level + 3) ≤ 24
+  pub waiter-low : (level : ℕ) → level ≤ 3 → first (level + 3) ≤ taskBlocks
   waiter-low level h =
       omega (arith, first-of (t .threads) (o .sound) (level + 3) (omega arith), first-low (level + 3) (queue s (level + 3)) (omega arith) refl)
 

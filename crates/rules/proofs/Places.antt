@@ -6,14 +6,14 @@ use Prim.Native.Nat.{ℕ, zero, suc, _+_, _-_, _≤_, _<_}
 use native.Mathlib.Omega.{arith}
 use lib.Dec.{eqb, leb, ltb}
 use borrow.Author.Tests.{eq-eqb, eqb-true, leb-true, ltb-true}
-use Rattle.threads.specs.Threads.{count}
+use Rattle.threads.specs.Threads.{count, BLOCKS, QUEUES}
 use Rattle.words.proofs.Truth.{tested, both, implied, not-eq}
 use Rattle.threads.proofs.Laws.{member}
 use Rattle.words.specs.Words.{standing}
 use Rattle.words.proofs.Places.{under-or-from}
 use Rattle.tables.specs.declared.Tables.{Tables}
 use Rattle.tables.specs.declared.Task.{Task}
-use Rattle.tables.specs.Blocks.{Free, HoldsRun, noTask}
+use Rattle.tables.specs.Blocks.{Free, HoldsRun, noTask, taskBlocks, requestBlocks}
 use Rattle.tables.specs.State.{State, node, taskAt, requestAt, queue, levelOf, unitsOf, read}
 use Rattle.meaning.specs.Rules.{queueFor, blankTask, tasksInPlace, requestsInPlace}
 use Rattle.meaning.proofs.Parts.{taskRange, requestRange, taskStands, requestStands, taskClear, ranges, clears, TaskRange, task-range, task-clear, request-range}
@@ -32,7 +32,7 @@ module _ (t : Tables) (o : Orderly t) where
 
   -- ---- the fields
 
-  module _ (k : ℕ) (low : 1 ≤ k) (high : k ≤ 24) where
+  module _ (k : ℕ) (low : 1 ≤ k) (high : k ≤ taskBlocks) where
     range : TaskRange (t .directory .modules) (unitsOf s k) (taskAt s k)
     range = task-range (t .directory .modules) (unitsOf s k) (taskAt s k) (all-to (taskRange s) 24 (ranges s (o .range) .tasks) k low high)
 
@@ -55,7 +55,7 @@ module _ (t : Tables) (o : Orderly t) where
   blank-program : (k : ℕ) → taskAt s k ≡ noTask → taskAt s k .program < t .directory .modules
   blank-program k e = omega (arith, some-module (t .directory) (o .directory), ap (λ (x : Task). x .program) e)
 
-  pub program-low : (k : ℕ) → k ≤ 24 → taskAt s k .program < t .directory .modules
+  pub program-low : (k : ℕ) → k ≤ taskBlocks → taskAt s k .program < t .directory .modules
   program-low zero h = blank-program 0 slot-zero
   program-low (suc k) h =
       ⊎-elim (λ e. blank-program (suc k) (free-blank (suc k) (omega arith) h (e .1))) (λ e. used-program (suc k) (omega arith) h (e .1))
@@ -64,42 +64,42 @@ module _ (t : Tables) (o : Orderly t) where
   pub none-above : taskAt s 0 .parent ≡ 0
   none-above = ap (λ (x : Task). x .parent) slot-zero
 
-  pub parent-low : (k : ℕ) → k ≤ 24 → taskAt s k .parent ≤ 24
+  pub parent-low : (k : ℕ) → k ≤ taskBlocks → taskAt s k .parent ≤ taskBlocks
   parent-low zero h = omega (arith, none-above)
   parent-low (suc k) h = leb-true _ _ (range (suc k) (omega arith) h .parent)
 
-  pub module-low : (k : ℕ) → k ≤ 24 → taskAt s k .program < 32
+  pub module-low : (k : ℕ) → k ≤ taskBlocks → taskAt s k .program < 32
   module-low k h = omega (arith, program-low k h, passing (t .directory) (o .directory) .modules)
 
-  pub level-fits : (k : ℕ) → k ≤ 24 → (1 ≤ levelOf s k) × (levelOf s k ≤ 3) × (unitsOf s k ≤ 64)
+  pub level-fits : (k : ℕ) → k ≤ taskBlocks → (1 ≤ levelOf s k) × (levelOf s k ≤ 3) × (unitsOf s k ≤ 64)
   level-fits k h =
       let d = passing (t .directory) (o .directory) in
       let m = taskAt s k .program in
       let low = program-low k h in
       (d .best m low, d .worst m low, d .units m low)
 
-  pub owner-low : (r : ℕ) → 1 ≤ r → r ≤ 16 → requestAt s r .owner ≤ 24
+  pub owner-low : (r : ℕ) → 1 ≤ r → r ≤ requestBlocks → requestAt s r .owner ≤ taskBlocks
   owner-low r l h = leb-true _ _ (request-range (requestAt s r) (all-to (requestRange s) 16 (ranges s (o .range) .requests) r l h) .owner)
 
   -- ---- the queues
 
   -- the queue in which a task block stands is that of its place
-  pub stands : (k : ℕ) → 1 ≤ k → k ≤ 24 → queueFor (taskAt s k .place) (levelOf s k) ≡ standing k (s .queues)
+  pub stands : (k : ℕ) → 1 ≤ k → k ≤ taskBlocks → queueFor (taskAt s k .place) (levelOf s k) ≡ standing k (s .queues)
   unfolding tasksInPlace
   stands k l h = sym (eqb-true _ _ (both (eqb (standing k (s .queues)) (queueFor (taskAt s k .place) (levelOf s k))) _ (all-to (taskStands s) 24 (o .tasks) k l h) .0))
 
-  pub in-queue : (q y : ℕ) → q < 9 → 1 ≤ count y (queue s q) → (standing y (s .queues) ≡ q) × (1 ≤ y) × (y ≤ 40)
+  pub in-queue : (q y : ℕ) → q < QUEUES → 1 ≤ count y (queue s q) → (standing y (s .queues) ≡ q) × (1 ≤ y) × (y ≤ BLOCKS)
   in-queue q y h c =
       let m = member (s .queues) (o .sound .apart) q h y c in
       (standing-in y (s .queues) q (omega (arith, o .sound .apart .nine)) (o .sound .apart .once y) c, m .0, m .1)
 
   -- a request block is in no queue but the last, and no task block is in that
-  request-out : (q r : ℕ) → q < 8 → 1 ≤ r → r ≤ 16 → count (node r) (queue s q) ≡ 0
+  request-out : (q r : ℕ) → q < 8 → 1 ≤ r → r ≤ requestBlocks → count (node r) (queue s q) ≡ 0
   unfolding requestsInPlace
   request-out q r h a b =
       request-placed s r (o .sound .apart) (all-to (requestStands s) 16 (o .requests) r a b) .0 .only q (omega arith) ∙ channel-others (requestAt s r .place) q h
 
-  pub tasks-of : (q y : ℕ) → q < 8 → 1 ≤ count y (queue s q) → (1 ≤ y) × (y ≤ 24)
+  pub tasks-of : (q y : ℕ) → q < 8 → 1 ≤ count y (queue s q) → (1 ≤ y) × (y ≤ taskBlocks)
   tasks-of q y h c =
       let i = in-queue q y (omega arith) c in
       ⊎-elim (λ l. (i .1, omega arith))
@@ -108,12 +108,12 @@ module _ (t : Tables) (o : Orderly t) where
       absurd (omega (arith, c, ap (λ (x : ℕ). count x (queue s q)) n, request-out q (y - 24) h (omega arith) (omega (arith, i .2)))))
       (under-or-from y 25)
 
-  no-task : (y : ℕ) → 1 ≤ y → y ≤ 24 → standing y (s .queues) ≢ 8
+  no-task : (y : ℕ) → 1 ≤ y → y ≤ taskBlocks → standing y (s .queues) ≢ 8
   no-task y l h e =
       by-queue (taskAt s y .place) (levelOf s y) 8 (stands y l h ∙ e) (omega arith) (λ a b. omega (arith, b, level-fits y h)) (λ a b. omega (arith, b, level-fits y h))
       (λ a b. omega (arith, b)) (λ a b. omega (arith, b))
 
-  pub requests-of : (y : ℕ) → 1 ≤ count y (queue s 8) → (25 ≤ y) × (y ≤ 40)
+  pub requests-of : (y : ℕ) → 1 ≤ count y (queue s 8) → (25 ≤ y) × (y ≤ BLOCKS)
   requests-of y c =
       let i = in-queue 8 y (omega arith) c in
       ⊎-elim (λ l. absurd (no-task y (i .1) (omega arith) (i .0))) (λ l. (l, i .2)) (under-or-from y 25)

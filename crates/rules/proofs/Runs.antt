@@ -25,6 +25,7 @@ use Rattle.rules.specs.Links.{Tally, Exact, Counted}
 use Rattle.rules.proofs.Firsts.{three}
 use Rattle.rules.proofs.Places.{run-fits, level-fits}
 use Rattle.rules.proofs.Tally.{met, met-none, tally-start, tally-next, tally-past, tally-end}
+use Rattle.tables.specs.Blocks.{taskBlocks}
 
 none : (level : ℕ) → level < 4 → _≡_ {A = ℕ} (getD (replicate 4 0) level 0) 0
 none level h = getD-replicate 4 level 0 0 h
@@ -77,10 +78,10 @@ module _ (t : Tables) (o : Orderly t) where
   abbrev s : State
   s = read t
 
-  pub level-low : (k : ℕ) → k ≤ 24 → levelOf s k < 4
+  pub level-low : (k : ℕ) → k ≤ taskBlocks → levelOf s k < 4
   level-low k h = omega (arith, level-fits t o k h)
 
-  high : (level u : ℕ) → 64 ≤ u → (k : ℕ) → 1 ≤ k → k ≤ 24 → holdsUnit s level u k ≡ false
+  high : (level u : ℕ) → 64 ≤ u → (k : ℕ) → 1 ≤ k → k ≤ taskBlocks → holdsUnit s level u k ≡ false
   unfolding holdsUnit
   high level u l k a b =
       ⊎-elim

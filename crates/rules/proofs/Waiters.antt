@@ -11,7 +11,7 @@ use borrow.Author.Tests.{eq-eqb}
 use Rattle.words.proofs.Truth.{tested, and-of, both, implied}
 use Rattle.words.specs.Words.{_implies_, allOf, standing, size}
 use Rattle.tables.specs.declared.Tables.{Tables}
-use Rattle.tables.specs.Blocks.{InEvent}
+use Rattle.tables.specs.Blocks.{InEvent, taskBlocks}
 use Rattle.tables.specs.State.{State, taskAt, queue, levelOf, readyQueue, coreQueue, read}
 use Rattle.meaning.specs.Conditions.{undefinedIn, enough}
 use Rattle.meaning.specs.Rules.{queueFor, eventsWait, eventsPass, ofTheirLevel}
@@ -33,19 +33,19 @@ module _ (t : Tables) (o : Orderly t) where
 
   -- a test of the blocks of a queue is one of the task blocks that stand in it
   module _ (p : ℕ → Bool) (q : ℕ) (h : q < 8) where
-    all-in : ((k : ℕ) → 1 ≤ k → k ≤ 24 → standing k (s .queues) ≡ q → p k ≡ true) → allOf p (queue s q) ≡ true
+    all-in : ((k : ℕ) → 1 ≤ k → k ≤ taskBlocks → standing k (s .queues) ≡ q → p k ≡ true) → allOf p (queue s q) ≡ true
     all-in f =
         of-all p (queue s q) (λ y c. let i = tasks-of t o q y h c in f y (i .0) (i .1) (in-queue t o q y (omega arith) c .0))
 
     all-out : allOf p (queue s q) ≡ true → (k : ℕ) → standing k (s .queues) ≡ q → p k ≡ true
     all-out e k st = all-of p (queue s q) e k (stands-here (t .threads) (o .sound) q (omega arith) k st)
 
-  event-place : (k : ℕ) → 1 ≤ k → k ≤ 24 → standing k (s .queues) ≡ 0 → taskAt s k .place ≡ InEvent
+  event-place : (k : ℕ) → 1 ≤ k → k ≤ taskBlocks → standing k (s .queues) ≡ 0 → taskAt s k .place ≡ InEvent
   event-place k l h st =
       by-queue (taskAt s k .place) (levelOf s k) 0 (stands t o k l h ∙ st) (omega arith) (λ a b. absurd (omega (arith, b, level-fits t o k h))) (λ a b. absurd (omega (arith, b)))
       (λ a b. a) (λ a b. absurd (omega (arith, b)))
 
-  place-event : (k : ℕ) → 1 ≤ k → k ≤ 24 → taskAt s k .place ≡ InEvent → standing k (s .queues) ≡ 0
+  place-event : (k : ℕ) → 1 ≤ k → k ≤ taskBlocks → taskAt s k .place ≡ InEvent → standing k (s .queues) ≡ 0
   unfolding queueFor
   place-event k l h e = sym (stands t o k l h) ∙ ap (λ (p : ℕ). queueFor p (levelOf s k)) e
 
@@ -76,7 +76,7 @@ module _ (t : Tables) (o : Orderly t) where
 
   -- every task block is a right waiter, where it is one
   abbrev pub Waiting : Type 0
-  Waiting = (k : ℕ) → 1 ≤ k → k ≤ 24 → waiterRight (t .directory .defined) (t .on) (taskAt s k) ≡ true
+  Waiting = (k : ℕ) → 1 ≤ k → k ≤ taskBlocks → waiterRight (t .directory .defined) (t .on) (taskAt s k) ≡ true
 
   pub waiters : eventsWait s ≡ true → eventsPass s ≡ true → Waiting
   unfolding eventsPass
@@ -95,7 +95,7 @@ module _ (t : Tables) (o : Orderly t) where
       (λ z. rw (z .0)) (tested (taskAt s k .place) 4)
 
   module _ (e : Waiting) where
-    four : (k : ℕ) → 1 ≤ k → k ≤ 24 → standing k (s .queues) ≡ 0
+    four : (k : ℕ) → 1 ≤ k → k ≤ taskBlocks → standing k (s .queues) ≡ 0
         → ((defined k && leb 1 (taskAt s k .count) && within k) ≡ true) × (waits k ≡ true)
     four k l h st =
         both _ _
@@ -114,7 +114,7 @@ module _ (t : Tables) (o : Orderly t) where
 
   -- ---- "ready and core queues hold their level's tasks": so do their places
 
-  module _ (level : ℕ) (low : 1 ≤ level) (high : level ≤ 3) (k : ℕ) (l : 1 ≤ k) (h : k ≤ 24) where
+  module _ (level : ℕ) (low : 1 ≤ level) (high : level ≤ 3) (k : ℕ) (l : 1 ≤ k) (h : k ≤ taskBlocks) where
     of-ready : standing k (s .queues) ≡ readyQueue level → levelOf s k ≡ level
     of-ready st =
         by-queue (taskAt s k .place) (levelOf s k) level (stands t o k l h ∙ st) (omega arith) (λ a b. sym b) (λ a b. absurd (omega (arith, b, level-fits t o k h)))

@@ -7,7 +7,7 @@ use native.Mathlib.Omega.{arith}
 use lib.ListN.{length}
 use lib.Seq.{getD-set-same, getD-set-other}
 use borrow.Author.Tests.{lt-ltb, le-ltb}
-use Rattle.threads.specs.Threads.{hd, count, without, Sound, Member}
+use Rattle.threads.specs.Threads.{hd, count, without, Sound, Member, QUEUES}
 use Rattle.threads.proofs.Lists.{count-nil, count-append, count-hit, without-at}
 use Rattle.tables.proofs.Held.{first-split, first-empty, first-member, queues-nine}
 use Rattle.image.specs.declared.Directory.{Directory}
@@ -63,7 +63,7 @@ module _ (s : State) (q k : ℕ) where
   unfolding seated readied givenRun
   directory-kept = refl
 
-module _ (s : State) (level k : ℕ) (l : List ℕ) (nine : length (s .queues) ≡ 9) (w : Waiters s level) (e : queue s (coreQueue level) ≡ k ∷ l) where
+module _ (s : State) (level k : ℕ) (l : List ℕ) (nine : length (s .queues) ≡ QUEUES) (w : Waiters s level) (e : queue s (coreQueue level) ≡ k ∷ l) where
   front : Waiter s level k
   front = w .each k (rw e (omega (arith, count-hit k k l refl)))
 
@@ -116,7 +116,7 @@ module _ {t : Tables} {level : ℕ} {u : Tables} {k : ℕ} (i : Turn t level u k
     split : queue (read u) (coreQueue level) ≡ k ∷ tail (queue (read u) (coreQueue level))
     split = first-split _ (i .first) n
 
-    nine : length (read u .queues) ≡ 9
+    nine : length (read u .queues) ≡ QUEUES
     nine = queues-nine (i .sound)
 
     pub turn-waiter : Waiter (read u) level k

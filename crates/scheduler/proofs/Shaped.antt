@@ -13,7 +13,7 @@ use Rattle.words.proofs.Masks.{in-run}
 use Rattle.pools.specs.Pools.{run}
 use Rattle.pools.specs.Runs.{HeldRun}
 use Rattle.pools.proofs.Units.{held-shown}
-use Rattle.tables.specs.Blocks.{Free, HoldsRun, noTask}
+use Rattle.tables.specs.Blocks.{Free, HoldsRun, noTask, taskBlocks}
 use Rattle.tables.specs.State.{State, coreQueue, taskAt, poolAt, levelOf, unitsOf, read}
 use Rattle.tables.specs.Held.{Fit, Held, Loose}
 use Rattle.lawful.specs.Shape.{holding, placeOf, Shape, InHand}
@@ -65,7 +65,7 @@ shape-waiters {s} g level a b =
     }
 
 -- ---- The run of a task that holds one is granted, unit by unit.
-module _ {s : State} {h : List ℕ} {e k : ℕ} (g : Shape s h e) (some : 1 ≤ k) (low : k ≤ 24) where
+module _ {s : State} {h : List ℕ} {e k : ℕ} (g : Shape s h e) (some : 1 ≤ k) (low : k ≤ taskBlocks) where
   unit-held : taskAt s k .core ≡ HoldsRun → (u : ℕ) → has (run (taskAt s k .start) (unitsOf s k)) u ≡ true → has (poolAt s (levelOf s k)) u ≡ true
   unit-held c u r =
       let n = used-holder g some low c in

@@ -1,6 +1,6 @@
 -- Where a newcomer gets its core; what granting core, serving a core queue and giving core back ask.
 use mathlib.Core.Path.{_≡_}
-use Prim.Native.Nat.{ℕ, _-_, _≤_, _<_}
+use Prim.Native.Nat.{ℕ, _-_, _≤_, _<_, suc}
 use Rattle.threads.specs.Threads.{count, Member}
 use Rattle.words.specs.Words.{if_then_else_, isEmpty}
 use Rattle.pools.specs.declared.Found.{Found}
@@ -8,7 +8,7 @@ use Rattle.pools.specs.Pools.{run}
 use Rattle.pools.specs.Find.{foundAt, foundOf}
 use Rattle.pools.specs.Runs.{HeldRun}
 use Rattle.tables.specs.declared.Tables.{Tables}
-use Rattle.tables.specs.Blocks.{HoldsRun, GaveBack, withCore}
+use Rattle.tables.specs.Blocks.{HoldsRun, GaveBack, withCore, taskBlocks}
 use Rattle.tables.specs.State.{State, coreQueue, withPool, withTask, taskAt, poolAt, queue, levelOf, unitsOf, read}
 use Rattle.meaning.specs.Ready.{startFor}
 
@@ -18,7 +18,7 @@ seatOf s level n = if isEmpty (queue s (coreQueue level)) then foundOf (poolAt s
 
 -- the task k can be given n units of the level's core from a on: they are its own number, and a is the lowest start at which they are free
 pub record Granting (s : State) (k level n a : ℕ) : Type 0 where
-  pub low : k < 25
+  pub low : k < suc taskBlocks
   pub worst : level ≤ 3
   pub start : a < 64
   pub own-level : level ≡ levelOf s k
@@ -28,7 +28,7 @@ pub record Granting (s : State) (k level n a : ℕ) : Type 0 where
 -- y is a task that waits for core of the level
 pub record Waiter (s : State) (level y : ℕ) : Type 0 where
   pub some : 1 ≤ y
-  pub low : y < 25
+  pub low : y < suc taskBlocks
   pub program : taskAt s y .program < 32
   pub own : levelOf s y ≡ level
 
@@ -56,7 +56,7 @@ unseated s k =
 
 -- what giving the task k's core back asks: that its run, if it holds one, is granted, and that its level's core queue is of waiters
 pub record Holder (s : State) (k : ℕ) : Type 0 where
-  pub low : k < 25
+  pub low : k < suc taskBlocks
   pub program : taskAt s k .program < 32
   pub waiters : Waiters s (levelOf s k)
   pub granted : taskAt s k .core ≡ HoldsRun → HeldRun (poolAt s (levelOf s k)) (taskAt s k .start) (unitsOf s k)

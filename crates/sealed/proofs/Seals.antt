@@ -8,7 +8,7 @@ use borrow.Author.Tests.{eqb-true, eq-eqb}
 use lib.ListN.{length, getD, take, drop, set, length-append, length-drop, take-append-drop, List·getD-append}
 use lib.Seq.{take-at, getD-take, getD-drop, getD-append-add}
 use Rattle.words.specs.Words.{below}
-use Rattle.words.specs.Bytes.{digit}
+use Rattle.words.specs.Bytes.{number, digit}
 use Rattle.words.proofs.Lists.{listed-length, listed-at, listed-of}
 use Rattle.words.proofs.Numbers.{digit-number, number-digits}
 use Rattle.sealed.specs.Sealed.{weighted, checkOf, passes, sealed}

@@ -42,10 +42,6 @@ timeQueue = 7
 abbrev pub channelQueue : ℕ
 channelQueue = 8
 
--- no queue
-abbrev pub noQueue : ℕ
-noQueue = QUEUES
-
 -- the number of request block r in a queue (task block k is the number k), and the request block of such a number
 abbrev pub node : ℕ → ℕ
 node r = r + taskBlocks

@@ -4,12 +4,12 @@ use mathlib.Core.Bool.{false, true≢false}
 use mathlib.Core.Path.{_≡_, sym, ap, _∙_}
 use mathlib.Core.Logic.{_≢_, ⊎-elim}
 use mathlib.Core.List.{[]}
-use Prim.Native.Nat.{ℕ, _^_, _<_}
+use Prim.Native.Nat.{ℕ, _^_, _<_, suc}
 use native.Mathlib.Omega.{arith}
 use Rattle.words.proofs.Truth.{tested}
 use Rattle.words.specs.Words.{least}
 use Rattle.tables.specs.declared.Tables.{Tables}
-use Rattle.tables.specs.Blocks.{InLink}
+use Rattle.tables.specs.Blocks.{InLink, taskBlocks}
 use Rattle.tables.specs.State.{State, read}
 use Rattle.tables.specs.Held.{Shows, Loose}
 use Rattle.calls.specs.declared.Call.{Call}
@@ -38,7 +38,7 @@ module _ {t : Tables} {c : Call} (p : Starting t c) where
   abbrev k : ℕ
   k = least (s .freeTasks)
 
-  pub block-low : k < 25
+  pub block-low : k < suc taskBlocks
   block-low =
       let b = p .lawful .state .shape .blank in
       omega (arith, least-low (s .freeTasks) 25 (omega arith) (b .freeTasks) (p .block) (b .freeTasks-none))
@@ -57,6 +57,6 @@ module _ {t : Tables} {c : Call} (p : Starting t c) where
   child-loose n h = hand-loose {h = []} {e = 0} (h .sound) (rw (h .reads) (linked (p .lawful .state) (c .number) (p .program) (p .block) n))
 
   -- the task that runs goes on running while its child is made
-  pub child-running : (k m : ℕ) {u : Tables} → Shows u (created s k m (s .running)) → u .running < 25
+  pub child-running : (k m : ℕ) {u : Tables} → Shows u (created s k m (s .running)) → u .running < suc taskBlocks
   unfolding created
   child-running k m h = rw (ap (λ (x : State). x .running) (h .reads)) (omega (arith, p .lawful .state .shape .blank .running))

@@ -1,11 +1,11 @@
 -- DISPATCH CHECK: the caller is a task of a module, of no queue, so that it can go to the front of its level's.
 use mathlib.Core.Path.{ap}
 use mathlib.Core.Logic.{_≢_}
-use Prim.Native.Nat.{_<_}
+use Prim.Native.Nat.{_<_, suc}
 use native.Mathlib.Omega.{arith}
 use Rattle.threads.specs.Threads.{Outside, counts}
 use Rattle.tables.specs.declared.Tables.{Tables}
-use Rattle.tables.specs.Blocks.{Ready}
+use Rattle.tables.specs.Blocks.{Ready, taskBlocks}
 use Rattle.tables.specs.State.{State, taskAt, levelOf, read}
 use Rattle.tables.specs.Held.{Shows}
 use Rattle.meaning.specs.Services.{stopped}
@@ -19,7 +19,7 @@ module _ {t : Tables} (g : LawfulTables t) (n : t .running ≢ 0) where
   abbrev s : State
   s = read t
 
-  pub caller-low : s .running < 25
+  pub caller-low : s .running < suc taskBlocks
   caller-low = omega (arith, g .state .shape .blank .running)
 
   pub caller-program : taskAt s (s .running) .program < 32

@@ -13,6 +13,10 @@ use Rattle.threads.specs.declared.Threads.{Threads}
 abbrev pub QUEUES : ℕ
 QUEUES = 9
 
+-- what stands for the queue of a block that is in none
+abbrev pub noQueue : ℕ
+noQueue = QUEUES
+
 abbrev pub BLOCKS : ℕ
 BLOCKS = 40
 

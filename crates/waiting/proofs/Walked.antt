@@ -7,7 +7,7 @@ use Prim.Native.Nat.{ℕ, _≤_, _<_}
 use native.Mathlib.Omega.{arith}
 use lib.ListN.{length, getD}
 use lib.Dec.{leb}
-use Rattle.threads.specs.Threads.{hd, count, without, walk, Sound}
+use Rattle.threads.specs.Threads.{hd, count, without, walk, Sound, QUEUES}
 use Rattle.threads.proofs.Lists.{count-append, count-hit, without-at}
 use Rattle.words.proofs.Truth.{tested}
 use Rattle.words.specs.Words.{if_then_else_, each}
@@ -54,7 +54,7 @@ wakes-time =
     }
 
 -- of either queue
-pub watched-low : {q : ℕ} → Watched q → q < 9
+pub watched-low : {q : ℕ} → Watched q → q < QUEUES
 watched-low {q} w = ⊎-elim (λ z. omega (arith, z .1)) (λ z. omega (arith, w .either (z .1))) (tested q eventQueue)
 
 pub wakes-in : (q : ℕ) → Watched q → Wakes (wokenIn q) q

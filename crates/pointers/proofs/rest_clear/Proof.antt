@@ -9,9 +9,10 @@ use mathlib.Core.Path.{_≡_}
 use mathlib.Core.Bool.{_&&_}
 use Rattle.pointers.proofs.rest_clear.Statement.{statement}
 use Rattle.pointers.proofs.rest_clear.Tie as tie
+use Rattle.threads.specs.Threads.{BLOCKS}
 
 abbrev Inv-loop : tie.InvT-loop
-Inv-loop t marks right₀ i₀ right i = (i ≤ 40) × (right ≡ (clearAt t marks 0 && allOf (clearAt t marks) (oneTo i)))
+Inv-loop t marks right₀ i₀ right i = (i ≤ BLOCKS) × (right ≡ (clearAt t marks 0 && allOf (clearAt t marks) (oneTo i)))
 
 abbrev μ-loop : tie.MeasureT-loop
 μ-loop t marks right₀ i₀ right i = 40 - i

@@ -10,9 +10,10 @@ use Rattle.meaning.specs.Finish.{freedIfDone, freedDone}
 use Rattle.blocks.proofs.Each.{each-none, each-next}
 use Rattle.blocks.proofs.free.free_done.Statement.{statement}
 use Rattle.blocks.proofs.free.free_done.Tie as tie
+use Rattle.tables.specs.Blocks.{requestBlocks}
 
 abbrev Inv-loop : tie.InvT-loop
-Inv-loop k u₀ n₀ u n = (n ≤ 16) × Shows u (each (freedIfDone k) (oneTo n) (read u₀))
+Inv-loop k u₀ n₀ u n = (n ≤ requestBlocks) × Shows u (each (freedIfDone k) (oneTo n) (read u₀))
 
 abbrev μ-loop : tie.MeasureT-loop
 μ-loop k u₀ n₀ u n = 16 - n

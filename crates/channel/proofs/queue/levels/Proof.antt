@@ -8,9 +8,10 @@ use Rattle.channel.specs.Queue.{Levels}
 use Rattle.channel.proofs.Levels.{levels-none, levels-more}
 use Rattle.channel.proofs.queue.levels.Statement.{statement}
 use Rattle.channel.proofs.queue.levels.Tie as tie
+use Rattle.tables.specs.Blocks.{requestBlocks}
 
 abbrev Inv-loop : tie.InvT-loop
-Inv-loop t d keys₀ r₀ keys r = (r ≤ 16) × Levels (read t) r keys
+Inv-loop t d keys₀ r₀ keys r = (r ≤ requestBlocks) × Levels (read t) r keys
 
 abbrev μ-loop : tie.MeasureT-loop
 μ-loop t d keys₀ r₀ keys r = 16 - r

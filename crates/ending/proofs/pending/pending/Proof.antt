@@ -8,9 +8,10 @@ use Rattle.meaning.specs.Finish.{pendingOf, pending}
 use Rattle.ending.proofs.Some.{some-start, some-next, some-end}
 use Rattle.ending.proofs.pending.pending.Statement.{statement}
 use Rattle.ending.proofs.pending.pending.Tie as tie
+use Rattle.tables.specs.Blocks.{requestBlocks}
 
 abbrev Inv-loop : tie.InvT-loop
-Inv-loop k t n₀ some₀ n some = (n ≤ 16) × (some ≡ someOf (pendingOf (read t) k) (oneTo n))
+Inv-loop k t n₀ some₀ n some = (n ≤ requestBlocks) × (some ≡ someOf (pendingOf (read t) k) (oneTo n))
 
 abbrev μ-loop : tie.MeasureT-loop
 μ-loop k t n₀ some₀ n some = 16 - n

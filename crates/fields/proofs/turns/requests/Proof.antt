@@ -4,7 +4,7 @@ use mathlib.Core.Path.{_≡_, refl, ap, _∙_}
 use borrow.Author.Needs.{needs}
 use Rattle.words.proofs.OneTo.{gather-start, gather-next, gather-end, some-start, some-next}
 use Rattle.fields.specs.Blocks.{pends, requestMarked}
-use Rattle.tables.specs.Blocks.{noRequest}
+use Rattle.tables.specs.Blocks.{noRequest, taskBlocks, requestBlocks}
 use Rattle.words.proofs.Members.{has-none}
 use Rattle.words.specs.Words.{oneTo, allOf, someOf, has}
 use lib.ListN.{getD}
@@ -15,8 +15,8 @@ use Rattle.fields.proofs.turns.requests.Tie as tie
 
 abbrev Inv-loop : tie.InvT-loop
 Inv-loop freeTasks freeRequests channel requests marks right₀ owners₀ r₀ right owners r =
-    (r ≤ 16) × (right ≡ allOf (requestMarked requests marks freeTasks freeRequests channel) (oneTo r))
-    × ((k : ℕ) → k ≤ 24 → has owners k ≡ someOf (λ n. pends k (getD requests n noRequest)) (oneTo r))
+    (r ≤ requestBlocks) × (right ≡ allOf (requestMarked requests marks freeTasks freeRequests channel) (oneTo r))
+    × ((k : ℕ) → k ≤ taskBlocks → has owners k ≡ someOf (λ n. pends k (getD requests n noRequest)) (oneTo r))
 
 abbrev μ-loop : tie.MeasureT-loop
 μ-loop freeTasks freeRequests channel requests marks right₀ owners₀ r₀ right owners r = 16 - r

@@ -16,9 +16,10 @@ use mathlib.Core.Logic.{⊎-elim}
 use mathlib.Core.Path.{_≡_, _∙_}
 use Rattle.fields.proofs.turns.tasks.Statement.{statement}
 use Rattle.fields.proofs.turns.tasks.Tie as tie
+use Rattle.tables.specs.Blocks.{taskBlocks}
 
 abbrev Inv-loop : tie.InvT-loop
-Inv-loop owners t marks d right₀ k₀ right k = (k ≤ 24) × (right ≡ allOf (taskPasses (read t)) (oneTo k))
+Inv-loop owners t marks d right₀ k₀ right k = (k ≤ taskBlocks) × (right ≡ allOf (taskPasses (read t)) (oneTo k))
 
 abbrev μ-loop : tie.MeasureT-loop
 μ-loop owners t marks d right₀ k₀ right k = 24 - k

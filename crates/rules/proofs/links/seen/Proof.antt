@@ -11,6 +11,7 @@ use mathlib.Core.Path.{_≡_, refl}
 use Prim.Native.Nat.{_+_, _-_, _≤_}
 use Rattle.rules.proofs.links.seen.Statement.{statement}
 use Rattle.rules.proofs.links.seen.Tie as tie
+use Rattle.tables.specs.Blocks.{taskBlocks}
 
 abbrev Inv-loop2 : tie.InvT-loop2
 Inv-loop2 t d parents waits ends held twice k x y₀ n₀ y n = Above (read t) k n y
@@ -20,7 +21,7 @@ abbrev μ-loop2 : tie.MeasureT-loop2
 
 abbrev Inv-loop : tie.InvT-loop
 Inv-loop t d parents₀ waits₀ ends₀ held₀ twice₀ k₀ parents waits ends held twice k =
-    (k ≤ 24) × Seen (read t) k (parents .one) (parents .two) waits ends held twice
+    (k ≤ taskBlocks) × Seen (read t) k (parents .one) (parents .two) waits ends held twice
 
 abbrev μ-loop : tie.MeasureT-loop
 μ-loop t d parents₀ waits₀ ends₀ held₀ twice₀ k₀ parents waits ends held twice k = 24 - k
