@@ -18,7 +18,7 @@ use Rattle.meaning.specs.Channel.{queued, channelLevel}
 use Rattle.meaning.specs.Services.{asked}
 use Rattle.words.proofs.Counting.{one-other}
 use Rattle.threads.proofs.Queues.{counts-none, count-placed, set-queue, set-others}
-use Rattle.lawful.proofs.Channel.{freeRequests-some, freeRequests-low, freeRequests-free}
+use Rattle.lawful.proofs.Each.Channel.{freeRequests-some, freeRequests-low, freeRequests-free}
 use Rattle.channel.specs.Queue.{Owned, Entering}
 use Rattle.channel.specs.Transfer.{Transferring}
 use Rattle.channel.proofs.Shaped.{program-low, owner-low}

@@ -19,8 +19,8 @@ use Rattle.meaning.specs.Services.{ioDone}
 use Rattle.lawful.specs.Shape.{InHand}
 use Rattle.lawful.specs.Resting.{Lawful}
 use Rattle.words.proofs.Truth.{both}
-use Rattle.lawful.proofs.Made.{made-ready}
-use Rattle.lawful.proofs.IoDone.{owner, off, freed-hand, freed-rest, freed-finishes, done-first}
+use Rattle.lawful.proofs.Ready.Made.{made-ready}
+use Rattle.lawful.proofs.Each.IoDone.{owner, off, freed-hand, freed-rest, freed-finishes, done-first}
 use Rattle.scheduler.proofs.Shaped.{shape-held, hand-loose}
 use Rattle.ending.specs.Ending.{Finishing}
 use Rattle.ending.proofs.Shown.{then}

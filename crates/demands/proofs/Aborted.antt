@@ -15,10 +15,10 @@ use Rattle.meaning.specs.Rules.{upward}
 use Rattle.meaning.specs.Services.{effect}
 use Rattle.lawful.specs.Resting.{Lawful}
 use Rattle.lawful.specs.Reached.{Reached, taken, takenBy}
-use Rattle.lawful.proofs.Chains.{chain-ends, each-once, no-return}
-use Rattle.lawful.proofs.Taken.{at-most, each-taken-once, check-takes, the-chain as chain, none-cut as cuts-none}
-use Rattle.lawful.proofs.Gone.{check-gone, check-others}
-use Rattle.lawful.proofs.Steps.{reached-lawful}
+use Rattle.lawful.proofs.Each.Chains.{chain-ends, each-once, no-return}
+use Rattle.lawful.proofs.Told.Taken.{at-most, each-taken-once, check-takes, the-chain as chain, none-cut as cuts-none}
+use Rattle.lawful.proofs.Told.Gone.{check-gone, check-others}
+use Rattle.lawful.proofs.Told.Steps.{reached-lawful}
 
 module _ (image : List ℕ) {t : Tables} (reached : Reached image t) where
   abbrev s : State

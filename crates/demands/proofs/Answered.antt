@@ -22,8 +22,8 @@ use Rattle.tables.specs.State.{tabled, allZero}
 use Rattle.meaning.specs.Refusals.{refusals}
 use Rattle.meaning.specs.Step.{refused, accepted, stepOf, tablesOf}
 use Rattle.meaning.proofs.Loaded.{zero-refused}
-use Rattle.lawful.proofs.Ends.{refused-where, some-result, step-ends, step-outcome, refused-leaves, load-ends, load-outcome, refused-tables, loaded-modules, write-ends, write-outcome}
-use Rattle.lawful.proofs.Results.{result-some}
+use Rattle.lawful.proofs.Told.Ends.{refused-where, some-result, step-ends, step-outcome, refused-leaves, load-ends, load-outcome, refused-tables, loaded-modules, write-ends, write-outcome}
+use Rattle.lawful.proofs.Told.Results.{result-some}
 
 -- ---- Calls: any tables, any bytes.
 module _ (t : Tables) (bytes : List ℕ) where

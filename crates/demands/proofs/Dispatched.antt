@@ -13,10 +13,10 @@ use Rattle.calls.specs.Calls.{PROGRAM-CHECK, callOf, interrupts}
 use Rattle.meaning.specs.Services.{effect}
 use Rattle.meaning.specs.Step.{stepOf}
 use Rattle.lawful.specs.Reached.{Reached, First}
-use Rattle.lawful.proofs.Steps.{reached-lawful}
-use Rattle.lawful.proofs.Stays.{effect-puts}
-use Rattle.lawful.proofs.After.{step-newly, step-undisturbed, step-left, interrupts-need-none}
-use Rattle.lawful.proofs.Best.{step-best}
+use Rattle.lawful.proofs.Told.Steps.{reached-lawful}
+use Rattle.lawful.proofs.Chained.Stays.{effect-puts}
+use Rattle.lawful.proofs.Told.After.{step-newly, step-undisturbed, step-left, interrupts-need-none}
+use Rattle.lawful.proofs.Told.Best.{step-best}
 
 module _ (image : List ℕ) {t : Tables} (reached : Reached image t) where
   abbrev s : State

@@ -26,7 +26,7 @@ use Rattle.image.proofs.Loads.{good, check-is-load}
 use Rattle.tables.specs.declared.Tables.{Tables}
 use Rattle.meaning.specs.Step.{stepOf, tablesOf, lineOf, loadLine}
 use Rattle.lawful.specs.Reached.{Reached}
-use Rattle.lawful.proofs.After.{refused-line, accepted-line, loaded-line, reached-loads, reached-directory}
+use Rattle.lawful.proofs.Told.After.{refused-line, accepted-line, loaded-line, reached-loads, reached-directory}
 
 -- ---- "same answer, .. same running task": the three numbers. A refused call names the running task unchanged, 0 with refusal 9; an accepted one names that of its tables
 module _ (t : Tables) (bytes : List ℕ) where

@@ -21,12 +21,12 @@ use Rattle.lawful.specs.Shape.{placeOf}
 use Rattle.words.specs.Counting.{one}
 use Rattle.lawful.specs.Resting.{Lawful}
 use Rattle.lawful.specs.Reached.{Reached}
-use Rattle.lawful.proofs.Members.{level-best, level-worst, member-some, member-low, channel-high, channel-low}
-use Rattle.lawful.proofs.Corollaries.{units-make, runs-apart}
-use Rattle.lawful.proofs.Steps.{reached-lawful, reached-rules}
-use Rattle.lawful.proofs.Never.{not-nine}
-use Rattle.lawful.proofs.Plain.{same-where, has-where, too-few, no-run}
-use Rattle.lawful.proofs.Agree.{none-behind, none-ahead, both-ways, names-blocks, first-ends, last-ends, begins, ends}
+use Rattle.lawful.proofs.Blocks.Members.{level-best, level-worst, member-some, member-low, channel-high, channel-low}
+use Rattle.lawful.proofs.Told.Corollaries.{units-make, runs-apart}
+use Rattle.lawful.proofs.Told.Steps.{reached-lawful, reached-rules}
+use Rattle.lawful.proofs.Told.Never.{not-nine}
+use Rattle.lawful.proofs.Told.Plain.{same-where, has-where, too-few, no-run}
+use Rattle.lawful.proofs.Told.Agree.{none-behind, none-ahead, both-ways, names-blocks, first-ends, last-ends, begins, ends}
 
 module _ (image : List ℕ) {t : Tables} (reached : Reached image t) where
   abbrev s : State

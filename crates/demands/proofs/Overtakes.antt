@@ -11,11 +11,11 @@ use Rattle.meaning.specs.Refusals.{refusals}
 use Rattle.meaning.specs.Step.{refused, accepted, stepOf}
 use Rattle.lawful.specs.InTurn.{InTurn}
 use Rattle.lawful.specs.Reached.{Reached}
-use Rattle.lawful.proofs.Accepted.{accepts, rows-left}
-use Rattle.lawful.proofs.Keeps.{keeps}
-use Rattle.lawful.proofs.Overtakes.{none-overtakes}
-use Rattle.lawful.proofs.Steps.{read-tabled, reached-lawful}
-use Rattle.lawful.proofs.Turns.{stays}
+use Rattle.lawful.proofs.Tested.Accepted.{accepts, rows-left}
+use Rattle.lawful.proofs.Each.Keeps.{keeps}
+use Rattle.lawful.proofs.Told.Overtakes.{none-overtakes}
+use Rattle.lawful.proofs.Told.Steps.{read-tabled, reached-lawful}
+use Rattle.lawful.proofs.Told.Turns.{stays}
 
 -- after any call, of those who waited for core of a level the first are served and have left, the others stand as they stood, and who is new stands behind them; and
 -- who holds core of the level held it before the call, or was one of those served, or nobody is left waiting of those who waited

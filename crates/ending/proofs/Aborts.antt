@@ -15,9 +15,9 @@ use Rattle.meaning.specs.Rules.{upward}
 use Rattle.meaning.specs.Finish.{ended, unlinked, aborted}
 use Rattle.lawful.specs.Shape.{InHand}
 use Rattle.lawful.specs.Resting.{Aborting}
-use Rattle.lawful.proofs.Finish.{grab, parent-low, parent-links}
-use Rattle.lawful.proofs.Unlink.{unlink-rest}
-use Rattle.lawful.proofs.Abort.{aborted-none, alone, child, abort-next}
+use Rattle.lawful.proofs.Each.Finish.{grab, parent-low, parent-links}
+use Rattle.lawful.proofs.Blocks.Unlink.{unlink-rest}
+use Rattle.lawful.proofs.Each.Abort.{aborted-none, alone, child, abort-next}
 use Rattle.ending.specs.declared.abort.Gone.{Gone}
 use Rattle.ending.specs.Ending.{Finishing}
 use Rattle.ending.proofs.Shown.{then}

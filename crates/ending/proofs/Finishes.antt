@@ -14,13 +14,13 @@ use Rattle.tables.specs.State.{State, taskAt, requestAt, read}
 use Rattle.tables.specs.Held.{Shows}
 use Rattle.meaning.specs.Finish.{givenBack, freedIfDone, freedDone}
 use Rattle.lawful.specs.Shape.{Shape, InHand}
-use Rattle.lawful.proofs.Shape.{held-place}
+use Rattle.lawful.proofs.Blocks.Shape.{held-place}
 use Rattle.words.proofs.Counting.{one-same}
 use Rattle.threads.proofs.Tests.{to-top}
 use Rattle.threads.proofs.Queues.{count-cons}
-use Rattle.lawful.proofs.Ask.{free-request}
-use Rattle.lawful.proofs.Given.{gives-back}
-use Rattle.lawful.proofs.Finish.{grab, parent-low, parent-links}
+use Rattle.lawful.proofs.Blocks.Ask.{free-request}
+use Rattle.lawful.proofs.Each.Given.{gives-back}
+use Rattle.lawful.proofs.Each.Finish.{grab, parent-low, parent-links}
 use Rattle.scheduler.specs.Core.{Holder}
 use Rattle.scheduler.proofs.Shaped.{hand-loose, shape-holder}
 use Rattle.ending.specs.Ending.{Parent, Finishing}

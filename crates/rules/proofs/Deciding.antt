@@ -23,8 +23,8 @@ use Rattle.meaning.proofs.Parts.{taskRange, requestRange, taskStands, requestSt
 use Rattle.fields.specs.Blocks.{waiterRight, pends, usedBy, taskPasses, requestPasses, firstTests, firstPass}
 use Rattle.threads.proofs.Tests.{all-to, to-all}
 use Rattle.meaning.proofs.Blanks.{task-blank}
-use Rattle.lawful.proofs.TaskRules.{neededAt}
-use Rattle.lawful.proofs.RequestRules.{ownedAt}
+use Rattle.lawful.proofs.Tested.TaskRules.{neededAt}
+use Rattle.lawful.proofs.Tested.RequestRules.{ownedAt}
 use Rattle.rules.proofs.Waiters.{twice}
 
 -- ---- one block

@@ -19,9 +19,9 @@ use Rattle.meaning.specs.Rules.{queueFor, blankTask, tasksInPlace, requestsInPl
 use Rattle.meaning.proofs.Parts.{taskRange, requestRange, taskStands, requestStands, taskClear, ranges, clears, TaskRange, task-range, task-clear, request-range}
 use Rattle.threads.proofs.Tests.{all-to}
 use Rattle.meaning.proofs.Blanks.{task-blank}
-use Rattle.lawful.proofs.Directory.{passing}
-use Rattle.lawful.proofs.Members.{by-queue}
-use Rattle.lawful.proofs.PlaceRules.{channel-others, request-placed}
+use Rattle.lawful.proofs.Tested.Directory.{passing}
+use Rattle.lawful.proofs.Blocks.Members.{by-queue}
+use Rattle.lawful.proofs.Tested.PlaceRules.{channel-others, request-placed}
 use Rattle.pointers.proofs.Marks.{standing-in}
 use Rattle.rules.specs.Orderly.{Orderly}
 use Rattle.rules.proofs.Modules.{some-module}

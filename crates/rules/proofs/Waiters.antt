@@ -18,7 +18,7 @@ use Rattle.meaning.specs.Rules.{queueFor, eventsWait, eventsPass, ofTheirLevel}
 use Rattle.fields.specs.Blocks.{waiterRight}
 use Rattle.rules.specs.Orderly.{Orderly}
 use Rattle.threads.proofs.Tests.{of-all, all-of, to-all}
-use Rattle.lawful.proofs.Members.{by-queue}
+use Rattle.lawful.proofs.Blocks.Members.{by-queue}
 use Rattle.words.proofs.Lists.{all-append}
 use Rattle.pointers.proofs.Marks.{stands-here}
 use Rattle.rules.proofs.Places.{stands, in-queue, tasks-of, level-fits}

@@ -11,7 +11,7 @@ use Rattle.tables.specs.Blocks.{HoldsRun, GaveBack, noTask, withCore}
 use Rattle.tables.specs.State.{State, withPool, withTask, taskAt, poolAt, entryFor}
 use Rattle.meaning.specs.Ready.{served}
 use Rattle.meaning.specs.Finish.{givenBack}
-use Rattle.lawful.proofs.Sums.{field-kept}
+use Rattle.lawful.proofs.Blocks.Sums.{field-kept}
 use Rattle.scheduler.specs.Core.{unseated, Waiters, Holder}
 use Rattle.scheduler.proofs.Served.{waiters-kept}
 

@@ -17,7 +17,7 @@ use Rattle.image.specs.Directory.{entryAt}
 use Rattle.tables.specs.declared.Task.{Task}
 use Rattle.tables.specs.Blocks.{Ready, InCore, NotGranted, HoldsRun, noTask, withCore}
 use Rattle.tables.specs.State.{State, coreQueue, withPool, withTask, taskAt, poolAt, queue, entryFor, levelOf, unitsOf, joining}
-use Rattle.lawful.proofs.Sums.{field-kept}
+use Rattle.lawful.proofs.Blocks.Sums.{field-kept}
 use Rattle.meaning.specs.Ready.{placed, startFor, fits, needsCore, givenRun, readied, awaitsCore, madeReady}
 use Rattle.scheduler.specs.Core.{seatOf, Granting}
 

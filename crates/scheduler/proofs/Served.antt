@@ -22,7 +22,7 @@ use Rattle.pools.specs.declared.Found.the-variants.{At, Nowhere}
 use Rattle.pools.specs.Pools.{startOf}
 use Rattle.pools.specs.Find.{foundOf}
 use Rattle.pools.proofs.Starts.{at-start}
-use Rattle.lawful.proofs.Sums.{field-kept}
+use Rattle.lawful.proofs.Blocks.Sums.{field-kept}
 use Rattle.scheduler.specs.Core.{Waiter, Waiters}
 use Rattle.scheduler.proofs.Granted.{nowhere-start, level-granted}
 

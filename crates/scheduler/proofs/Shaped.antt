@@ -18,12 +18,12 @@ use Rattle.tables.specs.State.{State, coreQueue, taskAt, poolAt, levelOf, units
 use Rattle.tables.specs.Held.{Fit, Held, Loose}
 use Rattle.lawful.specs.Shape.{holding, placeOf, Shape, InHand}
 use Rattle.words.specs.Counting.{bit}
-use Rattle.lawful.proofs.Sums.{sum-le}
+use Rattle.lawful.proofs.Blocks.Sums.{sum-le}
 use Rattle.threads.proofs.Queues.{counts-none}
 use Rattle.words.proofs.Bits.{bit-le}
-use Rattle.lawful.proofs.Cored.{holding-own, used-holder}
-use Rattle.lawful.proofs.Enter.{hand-stands, hand-count}
-use Rattle.lawful.proofs.Members.{level-best, level-worst, member-some, member-low, member-stands, member-used, member-core, channel-high}
+use Rattle.lawful.proofs.Blocks.Cored.{holding-own, used-holder}
+use Rattle.lawful.proofs.Blocks.Enter.{hand-stands, hand-count}
+use Rattle.lawful.proofs.Blocks.Members.{level-best, level-worst, member-some, member-low, member-stands, member-used, member-core, channel-high}
 use Rattle.scheduler.specs.Core.{Waiters, Holder}
 
 shape-fit : {s : State} {h : List ℕ} {e : ℕ} → Shape s h e → Fit s

@@ -25,9 +25,9 @@ use Rattle.meaning.specs.Refusals.{callRows, refusals}
 use Rattle.meaning.specs.Services.{effect}
 use Rattle.meaning.specs.Step.{refused, accepted, stepOf}
 use Rattle.lawful.specs.Tables.{LawfulTables}
-use Rattle.lawful.proofs.Accepted.{accepts}
-use Rattle.lawful.proofs.Keeps.{settles}
-use Rattle.lawful.proofs.Steps.{tables-rules}
+use Rattle.lawful.proofs.Tested.Accepted.{accepts}
+use Rattle.lawful.proofs.Each.Keeps.{settles}
+use Rattle.lawful.proofs.Told.Steps.{tables-rules}
 use Rattle.scheduler.proofs.Shaped.{shape-held}
 
 -- ---- What came.

@@ -17,8 +17,8 @@ use Rattle.meaning.specs.Conditions.{holds, dueOf}
 use Rattle.meaning.specs.Services.{created, stopped}
 use Rattle.lawful.specs.Accepts.{Condition}
 use Rattle.words.proofs.Free.{least-low}
-use Rattle.lawful.proofs.Calls.{new, new-apart}
-use Rattle.lawful.proofs.Link.{linked}
+use Rattle.lawful.proofs.Each.Calls.{new, new-apart}
+use Rattle.lawful.proofs.Each.Link.{linked}
 use Rattle.scheduler.proofs.Shaped.{hand-loose}
 use Rattle.tasking.specs.Starting.{Starting}
 

@@ -10,10 +10,10 @@ use Rattle.tables.specs.State.{State, taskAt, levelOf, read}
 use Rattle.tables.specs.Held.{Shows}
 use Rattle.meaning.specs.Services.{stopped}
 use Rattle.lawful.specs.Tables.{LawfulTables}
-use Rattle.lawful.proofs.Members.{runs-stands, runs-place}
+use Rattle.lawful.proofs.Blocks.Members.{runs-stands, runs-place}
 use Rattle.threads.proofs.Queues.{counts-none}
-use Rattle.lawful.proofs.Enter.{hand-count}
-use Rattle.lawful.proofs.Timer.{caller, worst}
+use Rattle.lawful.proofs.Blocks.Enter.{hand-count}
+use Rattle.lawful.proofs.Each.Timer.{caller, worst}
 
 module _ {t : Tables} (g : LawfulTables t) (n : t .running ≢ 0) where
   abbrev s : State

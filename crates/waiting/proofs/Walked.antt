@@ -20,9 +20,9 @@ use Rattle.meaning.specs.Ready.{madeReady}
 use Rattle.meaning.specs.Services.{woken, timely}
 use Rattle.lawful.specs.Shape.{Shape}
 use Rattle.threads.proofs.Queues.{set-queue}
-use Rattle.lawful.proofs.Members.{member-once}
-use Rattle.lawful.proofs.Leave.{leave}
-use Rattle.lawful.proofs.Made.{Frame, made-ready}
+use Rattle.lawful.proofs.Blocks.Members.{member-once}
+use Rattle.lawful.proofs.Blocks.Leave.{leave}
+use Rattle.lawful.proofs.Ready.Made.{Frame, made-ready}
 use Rattle.waiting.specs.Wake.{Waiting, Watched, wokenIn}
 
 -- f makes a task of the queue q ready or leaves all as it is, and getting ready does not touch the queue

@@ -8,7 +8,7 @@ use mir.Syntax.{w64}
 use mir.Val.{Fits}
 use Rattle.meaning.specs.Step.{refused}
 use Rattle.lawful.specs.Tables.{Typed}
-use Rattle.lawful.proofs.Steps.{rules-tables}
+use Rattle.lawful.proofs.Told.Steps.{rules-tables}
 use Rattle.executive.proofs.Broken.{broken}
 use Rattle.executive.proofs.step.Statement.{statement}
 use Rattle.executive.proofs.step.Tie as tie

@@ -2,7 +2,7 @@
 use borrow.Author.Needs.{needs}
 use native.Mathlib.Omega.{arith}
 use Rattle.tables.specs.State.{read}
-use Rattle.lawful.proofs.IoDone.{owner-used}
+use Rattle.lawful.proofs.Each.IoDone.{owner-used}
 use Rattle.scheduler.proofs.Shaped.{shape-held}
 use Rattle.channel.proofs.Transferred.{for-checker, for-ending, otherwise, after-leaving, can-be-ready, after-ready, can-finish, after-finishing}
 use Rattle.channel.proofs.done.io_done.Statement.{statement}

@@ -1,7 +1,7 @@
 -- `transfer::transfer` meets its contract: the lowest free block is taken, enters the channel queue, and the first goes on an empty channel.
 use borrow.Author.Needs.{needs}
 use Rattle.meaning.specs.Services.{readOrWrite}
-use Rattle.lawful.proofs.Channel.{freeRequests-low}
+use Rattle.lawful.proofs.Each.Channel.{freeRequests-low}
 use Rattle.scheduler.proofs.Shaped.{shape-held}
 use Rattle.channel.proofs.Asked.{can-enter, can-start}
 use Rattle.channel.proofs.transfer.transfer.Statement.{statement}

@@ -4,7 +4,7 @@ use mathlib.Core.Path.{sym, _∙_}
 use native.Mathlib.Omega.{arith}
 use Rattle.tables.proofs.Held.{first-none, first-filled}
 use Rattle.tables.specs.State.{read, queue}
-use Rattle.lawful.proofs.Cases.{best-0, best-1, best-2, best-3}
+use Rattle.lawful.proofs.Ready.Cases.{best-0, best-1, best-2, best-3}
 use Rattle.scheduler.proofs.dispatch.best_ready.Statement.{statement}
 use Rattle.scheduler.proofs.dispatch.best_ready.Tie as tie
 

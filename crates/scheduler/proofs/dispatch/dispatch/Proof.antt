@@ -4,7 +4,7 @@ use mathlib.Core.Path.{sym, _∙_}
 use native.Mathlib.Omega.{arith}
 use Rattle.tables.specs.State.{read}
 use Rattle.tables.proofs.Held.{first-some}
-use Rattle.lawful.proofs.Cases.{best-some, kept, none-ready, dispatches}
+use Rattle.lawful.proofs.Ready.Cases.{best-some, kept, none-ready, dispatches}
 use Rattle.scheduler.proofs.dispatch.dispatch.Statement.{statement}
 use Rattle.scheduler.proofs.dispatch.dispatch.Tie as tie
 

@@ -2,7 +2,7 @@
 use borrow.Author.Needs.{needs}
 use mathlib.Core.Path.{sym, _∙_}
 use Rattle.meaning.specs.Step.{refused}
-use Rattle.lawful.proofs.Accepted.{accepts}
+use Rattle.lawful.proofs.Tested.Accepted.{accepts}
 use Rattle.services.proofs.Whole.{cut, turned-away, ready-to-dispatch, carried-out}
 use Rattle.services.proofs.call.call.Statement.{statement}
 use Rattle.services.proofs.call.call.Tie as tie

@@ -3,7 +3,7 @@ use borrow.Author.Needs.{needs}
 use mathlib.Core.Path.{sym, _∙_}
 use Rattle.meaning.specs.Services.{wait}
 use Rattle.meaning.specs.Conditions.{dueOf}
-use Rattle.lawful.proofs.Leave.{stop}
+use Rattle.lawful.proofs.Blocks.Leave.{stop}
 use Rattle.scheduler.proofs.Shaped.{hand-loose}
 use Rattle.tasking.proofs.Starts.{due-low}
 use Rattle.services.proofs.events.wait.Statement.{statement}

@@ -1,8 +1,8 @@
 -- `stopping::end` meets its contract: the caller is in hand, and ends.
 use mathlib.Core.List.{[]}
 use Rattle.meaning.specs.Services.{end}
-use Rattle.lawful.proofs.Leave.{stop}
-use Rattle.lawful.proofs.Calls.{rest-stopped}
+use Rattle.lawful.proofs.Blocks.Leave.{stop}
+use Rattle.lawful.proofs.Each.Calls.{rest-stopped}
 use Rattle.tasking.proofs.stopping.end.Statement.{statement}
 use Rattle.tasking.proofs.stopping.end.Tie as tie
 

@@ -1,7 +1,7 @@
 -- `stopping::freemain` meets its contract: the caller gives its run back.
 use native.Mathlib.Omega.{arith}
 use Rattle.meaning.specs.Services.{freemain}
-use Rattle.lawful.proofs.Members.{runs-place}
+use Rattle.lawful.proofs.Blocks.Members.{runs-place}
 use Rattle.scheduler.proofs.Shaped.{shape-holder}
 use Rattle.tasking.proofs.stopping.freemain.Statement.{statement}
 use Rattle.tasking.proofs.stopping.freemain.Tie as tie

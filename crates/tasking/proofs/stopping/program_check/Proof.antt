@@ -1,6 +1,6 @@
 -- `stopping::program_check` meets its contract: the caller is in hand, and its chain of parents ends in 24 steps.
 use Rattle.meaning.specs.Services.{programCheck}
-use Rattle.lawful.proofs.Abort.{starts-abort}
+use Rattle.lawful.proofs.Each.Abort.{starts-abort}
 use Rattle.tasking.proofs.stopping.program_check.Statement.{statement}
 use Rattle.tasking.proofs.stopping.program_check.Tie as tie
 

@@ -1,7 +1,7 @@
 -- `wake::wake` meets its contract: what leaves its queue is in hand, and so it can be made ready.
 use mathlib.Core.List.{[]}
 use native.Mathlib.Omega.{arith}
-use Rattle.lawful.proofs.Leave.{leave}
+use Rattle.lawful.proofs.Blocks.Leave.{leave}
 use Rattle.scheduler.proofs.Shaped.{hand-loose}
 use Rattle.waiting.proofs.wake.wake.Statement.{statement}
 use Rattle.waiting.proofs.wake.wake.Tie as tie

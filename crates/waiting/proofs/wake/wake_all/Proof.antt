@@ -2,7 +2,7 @@
 use native.Mathlib.Omega.{arith}
 use lib.ListN.{length}
 use Rattle.threads.specs.Threads.{walk}
-use Rattle.lawful.proofs.Members.{member-low}
+use Rattle.lawful.proofs.Blocks.Members.{member-low}
 use Rattle.waiting.specs.Wake.{Watched, wokenIn}
 use Rattle.waiting.proofs.Walked.{Walk, watched-low, wakes-in, walk-start, walk-end, walk-waiting, walk-next, walk-less}
 use Rattle.waiting.proofs.wake.wake_all.Statement.{statement}

@@ -3,7 +3,7 @@ use borrow.Author.Needs.{needs}
 use borrow.Author.Tests.{eq-eqb, ne-eqb, le-leb, lt-leb}
 use mathlib.Core.Path.{sym, _∙_}
 use native.Mathlib.Omega.{arith}
-use Rattle.lawful.proofs.Members.{member-low}
+use Rattle.lawful.proofs.Blocks.Members.{member-low}
 use Rattle.meaning.specs.Conditions.{enough}
 use Rattle.meaning.specs.Services.{woken, timely}
 use Rattle.waiting.specs.Wake.{wokenIn}

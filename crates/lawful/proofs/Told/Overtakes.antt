@@ -1,0 +1,315 @@
+-- Nobody overtakes, in any accepted call: each call is made of the parts of Turns and GetsInTurn.
+use mathlib.Core.Bool.{Bool, true, false, not, _&&_}
+use mathlib.Core.Path.{_≡_, refl, sym, ap, _∙_}
+use mathlib.Core.Logic.{_≢_, ⊎-elim}
+use mathlib.Core.List.{List, [], _∷_}
+use Prim.Native.Nat.{ℕ, zero, suc, _+_, _%_, _≤_, _<_}
+use native.Mathlib.Omega.{arith}
+use lib.ListN.{set, getD}
+use lib.Seq.{getD-set-other}
+use lib.Dec.{eqb, leb, ltb}
+use Rattle.threads.specs.Threads.{hd, count}
+use Rattle.words.proofs.Truth.{tested, both}
+use Rattle.words.specs.Words.{if_then_else_, _among_, isEmpty, oneTo, each, adding, least}
+use Rattle.tables.specs.declared.Task.{Task}
+use Rattle.tables.specs.Blocks.{Ready, InLink, InCheck, Ending, Done, HoldsRun, noTask, newTask, moving, awaitingEvents, awaitingTime, awaitingRequest, withParent, requestBlocks}
+use Rattle.tables.specs.State.{State, eventQueue, coreQueue, readyQueue, timeQueue, channelQueue, withClock, withOn, withRunning, withTask, withQueue, taskAt, requestAt, queue, levelOf, leaving}
+use Rattle.calls.specs.declared.Call.{Call}
+use Rattle.calls.specs.Calls.{needsTask}
+use Rattle.meaning.specs.Conditions.{enough, dueOf, holds, awaitsEvents, awaitsTime, inTime, waiting}
+use Rattle.meaning.specs.Ready.{madeReady, bestReady, runsFirst, dispatched}
+use Rattle.meaning.specs.Finish.{freedTask, freedRequest, givenBack, pending, freedIfDone, freedDone, parentReady, finished, ended, unlinked, aborted}
+use Rattle.meaning.specs.Channel.{queued, channelFilled}
+use Rattle.meaning.specs.Services.{Effect, stopped, created, freemain, link, end, schedule, wait, woken, signal, testEvent, dispatchCheck, asked, readOrWrite, awaitsRequest, check, timely, timer, ioDone, programCheck, operatorStart, deeds, effect}
+use Rattle.meaning.proofs.Deeds.{Shown, every-deed}
+use Rattle.lawful.specs.Shape.{Shape, InHand, Pending}
+use Rattle.words.specs.Counting.{bit}
+use Rattle.lawful.specs.Resting.{Rest, Lawful, Aborting}
+use Rattle.lawful.specs.Accepts.{Accepts}
+use borrow.Author.Tests.{eqb-true}
+use Rattle.lawful.proofs.Ready.Cases.{best-some, kept, none-ready, dispatches}
+use Rattle.words.proofs.Counting.{one-same}
+use Rattle.threads.proofs.Queues.{count-cons}
+use Rattle.lawful.proofs.Blocks.Leave.{leave, stop}
+use Rattle.lawful.proofs.Tested.Pendings.{quiet-of}
+use Rattle.lawful.proofs.Each.Clearing.{done-cleared}
+use Rattle.lawful.proofs.Chained.Framed.{frame-requests}
+use Rattle.lawful.proofs.Each.Given.{back-frame, gives-back}
+use Rattle.lawful.proofs.Each.Finish.{grab, parent-low, parent-links}
+use Rattle.lawful.proofs.Blocks.Unlink.{unlink-rest}
+use Rattle.lawful.proofs.Each.Abort.{aborted-none, aborted-step, upward-zero, alone, child, grabbed, abort-next, starts-abort}
+use Rattle.lawful.proofs.Each.Calls.{new, new-apart, rest-stopped}
+use Rattle.lawful.proofs.Each.Link.{linked}
+use Rattle.lawful.proofs.Each.Signal.{Walk, walk-step, signal-walk}
+use Rattle.lawful.proofs.Each.Timer.{walk-tick, timer-walk, worst}
+use Rattle.lawful.proofs.Each.IoDone.{off, owner, freed-hand, freed-rest, last-quiet, done-first}
+use Rattle.lawful.proofs.Told.Turns.{Turns, quiet, stays, then-turns}
+use Rattle.lawful.proofs.Told.GetsInTurn.{holders-kept, holders-lost, made-turns, back-turns}
+
+-- ---- A choice, and parts that give nobody core: a number, a request or a queue changes that is no core queue; a block changes, and its core and its module stay, or it
+-- holds none.
+chosen : (b : Bool) {s x y : State} → (b ≡ true → Turns s x) → (b ≡ false → Turns s y) → Turns s (if b then x else y)
+chosen true f g = f refl
+chosen false f g = g refl
+
+untouched : {s u : State} → u .directory ≡ s .directory → u .tasks ≡ s .tasks → u .queues ≡ s .queues → Turns s u
+untouched d t q =
+    quiet d (λ level lo hi. ap (λ (l : List (List ℕ)). getD l (coreQueue level) []) q)
+    (λ k c. (sym (ap (λ (l : List Task). getD l k noTask .core) t) ∙ c, ap (λ (l : List Task). getD l k noTask .program) t))
+
+-- no core queue
+abbrev Other : ℕ → Type 0
+Other q = (level : ℕ) → 1 ≤ level → level ≤ 3 → coreQueue level ≢ q
+
+queue-turns : {s u : State} (q : ℕ) (l : List ℕ) → Other q → u .directory ≡ s .directory → u .tasks ≡ s .tasks → u .queues ≡ set (s .queues) q l → Turns s u
+queue-turns {s} q l o d t e =
+    quiet d (λ level lo hi. ap (λ (m : List (List ℕ)). getD m (coreQueue level) []) e ∙ getD-set-other (s .queues) q (coreQueue level) l [] (o level lo hi))
+    (λ k c. (sym (ap (λ (m : List Task). getD m k noTask .core) t) ∙ c, ap (λ (m : List Task). getD m k noTask .program) t))
+
+kept-turns : {s u : State} (k : ℕ) (x : Task) → u .directory ≡ s .directory → u .queues ≡ s .queues → u .tasks ≡ set (s .tasks) k x
+    → x .core ≡ taskAt s k .core → x .program ≡ taskAt s k .program → Turns s u
+kept-turns {s} {u} k x d q t p r = quiet d (λ level lo hi. ap (λ (l : List (List ℕ)). getD l (coreQueue level) []) q) (holders-kept s u k x t p r)
+
+lost-turns : {s u : State} (k : ℕ) (x : Task) → u .directory ≡ s .directory → u .queues ≡ s .queues → u .tasks ≡ set (s .tasks) k x → x .core ≢ HoldsRun → Turns s u
+lost-turns {s} {u} k x d q t n = quiet d (λ level lo hi. ap (λ (l : List (List ℕ)). getD l (coreQueue level) []) q) (holders-lost s u k x t n)
+
+line-turns : (s : State) (q : ℕ) (l : List ℕ) → Other q → Turns s (withQueue s q l)
+line-turns s q l o = queue-turns q l o refl refl refl
+
+block-turns : (s : State) (k : ℕ) (x : Task) → x .core ≡ taskAt s k .core → x .program ≡ taskAt s k .program → Turns s (withTask s k x)
+block-turns s k x p r = kept-turns k x refl refl refl p r
+
+-- ---- Finishing, ending, the abort.
+done-queues : (k : ℕ) (l : List ℕ) (s : State) → each (freedIfDone k) l s .queues ≡ s .queues
+unfolding each freedIfDone freedRequest
+done-queues k [] s = refl
+done-queues k (r ∷ l) s = done-queues k l (freedIfDone k r s) ∙ one (eqb (requestAt s r .owner) k && eqb (requestAt s r .place) Done)
+  where
+    one : (b : Bool) → (if b then freedRequest s r else s) .queues ≡ s .queues
+    one true = refl
+    one false = refl
+
+module _ {s : State} {k : ℕ} {h : List ℕ} (i : InHand s k h 0) where
+  parent-turns : Turns s (parentReady s (taskAt s k .parent))
+  unfolding parentReady
+  parent-turns =
+      ⊎-elim (λ z. rw (z .0) (stays s))
+      (λ z. rw (z .0) (
+      let g = i .shape in
+      made-turns (grab g (taskAt s k .parent) (omega (arith, z .1)) (parent-low g k (i .low) (z .1) (i .some)) (parent-links g k (i .low) (z .1) (i .some)))))
+      (tested (taskAt s k .parent) 0)
+
+module _ {s : State} {k : ℕ} {h : List ℕ} {m : List ℕ} (i : InHand s k h 0) (t : Rest s m) where
+  finished-turns : ((j : ℕ) → Pending (s .requests) k j → ⊥) → Turns s (finished s k)
+  unfolding finished freedDone freedTask
+  finished-turns n =
+      let back = gives-back (i .shape) t k (i .some) (i .low) in
+      let all = done-cleared (i .some) (back .shape) (back .rest) (λ j p. n j (rw (frame-requests (back-frame s k)) at p)) .clears in
+      let j : InHand (freedDone (givenBack s k) k) k h 0 = record { some = i .some; low = i .low; out = i .out; shape = all .shape } in
+      then-turns (back-turns (i .shape) t k (i .some) (i .low))
+      (then-turns (untouched (ap (λ (x : State). x .directory) (all .others)) (ap (λ (x : State). x .tasks) (all .others)) (done-queues k (oneTo requestBlocks) (givenBack s k)))
+      (then-turns (parent-turns j) (lost-turns k noTask refl refl refl (λ z. omega (arith, z)))))
+
+  ended-turns : Turns s (ended s k)
+  unfolding ended
+  ended-turns = chosen (pending s k) (λ e. kept-turns k (moving (taskAt s k) Ending) refl refl refl refl refl) (λ e. finished-turns (quiet-of s k e))
+
+unlinked-turns : (s : State) (k : ℕ) → Turns s (unlinked s k)
+unfolding unlinked
+unlinked-turns s k = kept-turns k (withParent (taskAt s k) 0) refl refl refl refl refl
+
+abort-turns : (n k : ℕ) (s : State) → Aborting n k s → Turns s (aborted n k s)
+abort-turns zero k s a = absurd (omega (arith, sym (upward-zero s k) ∙ a .chain, a .hand .some))
+abort-turns (suc n) k s a =
+    rw (aborted-step n k s (λ z. omega (arith, z, a .hand .some)))
+    (⊎-elim
+    (λ z. rw (z .1, aborted-none n (ended (unlinked s k) k))
+    (then-turns (unlinked-turns s k) (ended-turns (alone i (a .rest) (a .core) (z .1)) (unlink-rest (i .shape) k (i .some) (i .low) (z .1) (a .rest)))))
+    (λ z. then-turns (unlinked-turns s k)
+    (then-turns (ended-turns (child i (a .rest) (a .core) (z .1)) (unlink-rest (grabbed i (a .rest) (a .core) (z .1) .shape) k (i .some) (i .low) refl (a .rest)))
+    (abort-turns n (taskAt s k .parent) (ended (unlinked s k) k) (abort-next a (z .1)))))
+    (tested (taskAt s k .parent) 0))
+  where
+    i : InHand s k [] 0
+    i = a .hand
+
+-- ---- Waking.
+taken-turns : {s : State} (a q : ℕ) → Shape s [] 0 → q < 8 → Other q → 1 ≤ count a (queue s q) → Turns s (madeReady (leaving s q a) a)
+taken-turns {s} a q g l o c = then-turns (line-turns s q _ o) (made-turns (leave g a q l c))
+
+first-left : {q a : ℕ} {l m : List ℕ} {s : State} → Walk q (a ∷ l) s m → 1 ≤ count a (queue s q)
+first-left {q} {a} {l} w = omega (arith, w .left a, count-cons a a l, one-same a a refl)
+
+events-turns : (l : List ℕ) (s : State) → Walk eventQueue l s l → Turns s (each woken l s)
+unfolding each woken
+events-turns [] s w = stays s
+events-turns (a ∷ l) s w =
+    then-turns
+    (chosen (enough s (taskAt s a .count) (taskAt s a .events)) (λ e. taken-turns a eventQueue (w .shape) (omega arith) (λ level lo hi z. omega (arith, z)) (first-left w)) (λ e. stays s))
+    (events-turns l (woken a s) (walk-step w))
+
+times-turns : (l : List ℕ) (s : State) → Walk timeQueue l s [] → Turns s (each timely l s)
+unfolding each timely
+times-turns [] s w = stays s
+times-turns (a ∷ l) s w =
+    then-turns
+    (chosen (leb (taskAt s a .time) (s .clock)) (λ e. taken-turns a timeQueue (w .shape) (omega arith) (λ level lo hi z. omega (arith, z, hi)) (first-left w)) (λ e. stays s))
+    (times-turns l (timely a s) (walk-tick w))
+
+-- ---- Waiting, the channel, the dispatch.
+waiting-turns : (s : State) (k : ℕ) (c : Call) → Turns s (waiting s k c)
+unfolding waiting awaitsEvents awaitsTime inTime
+waiting-turns s k c =
+    chosen (eqb (c .kind) 1)
+    (λ e. then-turns (block-turns s k (awaitingEvents (taskAt s k) (c .value) (c .events)) refl refl) (line-turns _ eventQueue _ (λ level lo hi z. omega (arith, z))))
+    (λ e. then-turns (block-turns s k (awaitingTime (taskAt s k) (dueOf s c)) refl refl) (line-turns _ timeQueue _ (λ level lo hi z. omega (arith, z, hi))))
+
+filled-turns : (s : State) → Turns s (channelFilled s)
+unfolding channelFilled
+filled-turns s =
+    chosen (eqb (s .channel) 0 && not (isEmpty (queue s channelQueue))) (λ e. queue-turns channelQueue _ (λ level lo hi z. omega (arith, z, hi)) refl refl refl) (λ e. stays s)
+
+freed-turns : (s : State) (r : ℕ) → Turns s (freedRequest s r)
+unfolding freedRequest
+freed-turns s r = untouched refl refl refl
+
+first-turns : (s : State) (level : ℕ) → level ≤ 3 → Turns s (runsFirst s level)
+unfolding runsFirst
+first-turns s level l =
+    then-turns (line-turns s (readyQueue level) _ (λ i lo hi z. omega (arith, z, l, lo))) (kept-turns (hd (queue s (readyQueue level))) _ refl refl refl refl refl)
+
+pub dispatched-turns : (s : State) → Turns s (dispatched s)
+dispatched-turns s =
+    ⊎-elim
+    (λ z. ⊎-elim (λ b. rw (none-ready s (z .1) (b .1)) (stays s)) (λ b. rw (dispatches s (z .1) (b .1)) (first-turns s (bestReady s) (best-some s (b .1) .1))) (tested (bestReady s) 0))
+    (λ z. rw (kept s (z .1)) (stays s)) (tested (s .running) 0)
+
+stopped-turns : (s : State) (p : ℕ) → Turns s (stopped s p)
+unfolding stopped
+stopped-turns s p = kept-turns (s .running) (moving (taskAt s (s .running)) p) refl refl refl refl refl
+
+-- ---- The calls.
+module _ {s : State} (c : Call) (g : Lawful s) where
+  created-turns : (k m p : ℕ) → Turns s (created s k m p)
+  unfolding created
+  created-turns k m p = lost-turns k (newTask m p) refl refl refl (λ z. omega (arith, z))
+
+  start-turns : c .number < s .directory .modules → s .freeTasks ≢ 0 → Turns s (operatorStart s c .state)
+  unfolding operatorStart
+  start-turns known some =
+      then-turns (created-turns (least (s .freeTasks)) (c .number) 0) (made-turns (new g (c .number) known some 0 (omega arith) (new-apart g (c .number) known some)))
+
+  schedule-turns : c .number < s .directory .modules → s .freeTasks ≢ 0 → Turns s (schedule s c .state)
+  unfolding schedule
+  schedule-turns known some =
+      chosen (holds s c)
+      (λ e. then-turns (created-turns (least (s .freeTasks)) (c .number) 0) (made-turns (new g (c .number) known some 0 (omega arith) (new-apart g (c .number) known some))))
+      (λ e. then-turns (created-turns (least (s .freeTasks)) (c .number) 0) (waiting-turns _ _ c))
+
+  module _ (n : s .running ≢ 0) where
+    link-turns : c .number < s .directory .modules → s .freeTasks ≢ 0 → Turns s (link s c .state)
+    unfolding link
+    link-turns known some =
+        let k = least (s .freeTasks) in
+        let made = created s (least (s .freeTasks)) (c .number) (s .running) in
+        then-turns (created-turns k (c .number) (s .running))
+        (then-turns (stopped-turns made InLink) (made-turns (linked g (c .number) known some n)))
+
+    end-turns : Turns s (end s c .state)
+    unfolding end
+    end-turns = then-turns {t = withRunning s 0} (untouched refl refl refl) (ended-turns (stop (g .shape) n) (rest-stopped s 0 (g .rest)))
+
+    freemain-turns : Turns s (freemain s c .state)
+    unfolding freemain
+    freemain-turns = back-turns (g .shape) (g .rest) (s .running) (omega (arith, n)) (g .shape .blank .running)
+
+    wait-turns : Turns s (wait s c .state)
+    unfolding wait
+    wait-turns = chosen (holds s c) (λ e. stays s) (λ e. then-turns {t = withRunning s 0} (untouched refl refl refl) (waiting-turns (withRunning s 0) (s .running) c))
+
+    yield-turns : Turns s (dispatchCheck s c .state)
+    unfolding dispatchCheck
+    yield-turns =
+        chosen (ltb 0 (bestReady s) && ltb (bestReady s) (levelOf s (s .running)))
+        (λ e. then-turns (stopped-turns s Ready) (line-turns (stopped s Ready) (readyQueue (levelOf s (s .running))) _ (λ i lo hi z. omega (arith, z, lo, worst g n)))) (λ e. stays s)
+
+    transfer-turns : Turns s (readOrWrite s c .state)
+    unfolding readOrWrite queued asked
+    transfer-turns =
+        let r = least (s .freeRequests) in
+        then-turns {t = asked s r c} (untouched refl refl refl)
+        (then-turns {t = queued (asked s r c) r} (line-turns (asked s r c) channelQueue _ (λ level lo hi z. omega (arith, z, hi))) (filled-turns _))
+
+    check-turns : Turns s (check s c .state)
+    unfolding check awaitsRequest
+    check-turns =
+        chosen (eqb (requestAt s (c .number) .place) Done) (λ e. freed-turns s (c .number))
+        (λ e. kept-turns (s .running) (awaitingRequest (taskAt s (s .running)) (c .number)) refl refl refl refl refl)
+
+    abort-all-turns : Turns s (programCheck s c .state)
+    unfolding programCheck
+    abort-all-turns = then-turns {t = withRunning s 0} (untouched refl refl refl) (abort-turns 24 (s .running) (withRunning s 0) (starts-abort g n))
+
+  signal-turns : bit (s .directory .defined) (c .number) ≡ 1 → Turns s (signal s c .state)
+  unfolding signal
+  signal-turns d =
+      chosen (eqb (c .value) 1)
+      (λ e. then-turns {t = withOn s (adding (s .on) (c .number))} (untouched refl refl refl) (events-turns (queue s eventQueue) _ (signal-walk (c .number) d g)))
+      (λ e. untouched refl refl refl)
+
+  timer-turns : Turns s (timer s c .state)
+  unfolding timer
+  timer-turns =
+      chosen (eqb ((s .clock + 1) % s .directory .every) 0)
+      (λ e. then-turns {t = withClock s (s .clock + 1)} (untouched refl refl refl) (times-turns (queue s timeQueue) _ (timer-walk g)))
+      (λ e. untouched refl refl refl)
+
+  -- I/O done: the owner waits on it in CHECK, or is ending and this was its last, or neither
+  io-turns : s .channel ≢ 0 → Turns s (ioDone s c .state)
+  io-turns n =
+      rw (done-first s c)
+      (then-turns
+      (then-turns {t = off s} (untouched refl refl refl)
+      (chosen (eqb (taskAt s (owner s) .place) InCheck && eqb (taskAt s (owner s) .request) (s .channel))
+      (λ e. then-turns (freed-turns (off s) (s .channel)) (made-turns (freed-hand g n (in-check (both _ _ e .0)))))
+      (λ e. chosen (eqb (taskAt s (owner s) .place) Ending && not (pending (off s) (owner s)))
+      (λ d. then-turns (freed-turns (off s) (s .channel))
+      (let f = both _ _ d in finished-turns (freed-hand g n (is-ending (f .0))) (freed-rest g n) (last-quiet g n (eqb-true _ _ (f .0)) (none-pending _ (f .1)))))
+      (λ d. stays (off s)))))
+      (filled-turns _))
+    where
+      none-pending : (b : Bool) → not b ≡ true → b ≡ false
+      none-pending false e = refl
+      none-pending true e = sym e
+
+      in-check : eqb (taskAt s (owner s) .place) InCheck ≡ true → (7 ≤ taskAt s (owner s) .place) × (taskAt s (owner s) .place ≤ 8)
+      in-check e = let p = eqb-true (taskAt s (owner s) .place) InCheck e in omega (arith, p)
+
+      is-ending : eqb (taskAt s (owner s) .place) Ending ≡ true → (7 ≤ taskAt s (owner s) .place) × (taskAt s (owner s) .place ≤ 8)
+      is-ending e = let p = eqb-true (taskAt s (owner s) .place) Ending e in omega (arith, p)
+
+-- ---- All of them, by the list of deeds.
+module _ {s : State} {c : Call} (g : Lawful s) (a : Accepts s c) where
+  effect-turns : Turns s (effect s c .state)
+  unfolding Shown deeds needsTask _among_ testEvent
+  effect-turns =
+      every-deed s c (λ (e : Effect). Turns s (e .state)) (λ k. stays s)
+      (λ z. freemain-turns c g (a .running (rw z)))
+      (λ z. link-turns c g (a .running (rw z)) (a .program (rw z)) (a .block (rw z)))
+      (λ z. end-turns c g (a .running (rw z)))
+      (λ z. schedule-turns c g (a .program (rw z)) (a .block (rw z)))
+      (λ z. wait-turns c g (a .running (rw z)))
+      (λ z. signal-turns c g (a .event (rw z) .1))
+      (λ z. stays s)
+      (λ z. yield-turns c g (a .running (rw z)))
+      (λ z. transfer-turns c g (a .running (rw z)))
+      (λ z. transfer-turns c g (a .running (rw z)))
+      (λ z. check-turns c g (a .running (rw z)))
+      (λ z. timer-turns c g)
+      (λ z. io-turns c g (a .channel z))
+      (λ z. abort-all-turns c g (a .running (rw z)))
+      (λ z. start-turns c g (a .program (rw z)) (a .block (rw z)))
+
+  -- the law: an accepted call, whole, and its dispatch
+  pub none-overtakes : Turns s (dispatched (effect s c .state))
+  none-overtakes = then-turns effect-turns (dispatched-turns (effect s c .state))
