@@ -29,9 +29,9 @@ use Rattle.meaning.specs.Channel.{channelLevel}
 abbrev pub moduleOf : Directory → Task → Entry
 moduleOf d t = entryAt d (t .program)
 
--- where the block y is: in hand, or where it says
+-- where the block y is: in hand, which is no place of a block, or where it says
 abbrev pub Hand : ℕ
-Hand = 9
+Hand = 255
 
 unfoldable pub placeOf : State → List ℕ → ℕ → ℕ
 placeOf s h y = cond (y among h) Hand (taskAt s y .place)

@@ -11,7 +11,7 @@ use lib.ListN.{length, length-map}
 use lib.Dec.{eqb, leb}
 use borrow.Author.Tests.{eqb-true, eq-eqb, leb-true, le-leb}
 use Rattle.threads.specs.declared.Threads.{Threads}
-use Rattle.threads.specs.Threads.{count, counts, queuesOf, threaded, Sound}
+use Rattle.threads.specs.Threads.{count, counts, queuesOf, threaded, Sound, BLOCKS, QUEUES}
 use Rattle.words.specs.Words.{oneTo, allOf, sameList}
 use Rattle.meaning.specs.Rules.{everywhere, pointersSound}
 use Rattle.words.proofs.Truth.{both, and-of}
@@ -41,7 +41,7 @@ everywhere-of p (l ∷ ls) e y h =
 same-threads : (t u : Threads) → t .fwd ≡ u .fwd → t .back ≡ u .back → t .first ≡ u .first → t .last ≡ u .last → t ≡ u
 same-threads t u a b c d = λ i. record { fwd = a i; back = b i; first = c i; last = d i }
 
-pub sound-of : (t : Threads) → length (queuesOf t) ≡ 9 → pointersSound t ≡ true → Sound t
+pub sound-of : (t : Threads) → length (queuesOf t) ≡ QUEUES → pointersSound t ≡ true → Sound t
 unfolding pointersSound
 sound-of t n e =
     let ls = queuesOf t in
@@ -50,7 +50,7 @@ sound-of t n e =
     let p″ = both _ _ (p′ .0) in
     let fb = both _ _ (p′ .1) in
     let fl = both _ _ (p .1) in
-    let inside : (y : ℕ) → 1 ≤ counts y ls → (1 ≤ y) × (y ≤ 40) =
+    let inside : (y : ℕ) → 1 ≤ counts y ls → (1 ≤ y) × (y ≤ BLOCKS) =
     λ y h. let q = both (leb 1 y) (leb y 40) (everywhere-of (λ y. leb 1 y && leb y 40) ls (p″ .0) y h) in (leb-true _ _ (q .0), leb-true _ _ (q .1)) in
     record {
       apart =
@@ -58,7 +58,7 @@ sound-of t n e =
             nine = n;
             once = λ y.
                 ⊎-elim (λ z. omega (arith, z))
-                (λ z. leb-true _ _ (all-of (λ y. leb (counts y ls) 1) (oneTo 40) (p″ .1) y (one-to 40 y (inside y z .0) (inside y z .1))))
+                (λ z. leb-true _ _ (all-of (λ y. leb (counts y ls) 1) (oneTo BLOCKS) (p″ .1) y (one-to 40 y (inside y z .0) (inside y z .1))))
                 (eq-zero-or-pos (counts y ls));
             inside = inside;
           };
@@ -66,7 +66,7 @@ sound-of t n e =
     }
 
 -- as many lists as there are first blocks
-pub nine-queues : (t : Threads) → length (t .first) ≡ 9 → length (queuesOf t) ≡ 9
+pub nine-queues : (t : Threads) → length (t .first) ≡ QUEUES → length (queuesOf t) ≡ QUEUES
 unfolding queuesOf
 nine-queues t h = length-map (t .first) _ ∙ h
 
@@ -86,7 +86,7 @@ of-sound t g =
     (and-of _ _
     (and-of _ _
     (of-everywhere (λ y. leb 1 y && leb y 40) ls (λ y h. let b = g .apart .inside y h in and-of _ _ (le-leb 1 y (b .0)) (le-leb y 40 (b .1))))
-    (to-all (λ y. leb (counts y ls) 1) 40 (λ y a b. le-leb _ _ (g .apart .once y))))
+    (to-all (λ y. leb (counts y ls) 1) BLOCKS (λ y a b. le-leb _ _ (g .apart .once y))))
     (and-of _ _ (same (ap (λ (x : Threads). x .fwd) e)) (same (ap (λ (x : Threads). x .back) e))))
     (and-of _ _ (same (ap (λ (x : Threads). x .first) e)) (same (ap (λ (x : Threads). x .last) e)))
   where

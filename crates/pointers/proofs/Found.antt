@@ -8,14 +8,14 @@ use native.Mathlib.Numerals.{add-one}
 use native.Mathlib.Omega.{arith}
 use native.Mathlib.Nat.{eq-zero-or-pos}
 use lib.ListN.{length, set, getD, drop, drop-of-length-le, length-set, getD-replicate}
-use lib.Seq.{drop-cons, getD-set-same, getD-set-other, ext-getD}
+use lib.Seq.{drop-cons, getD-set-same, getD-set-other}
 use lib.Dec.{eqb, leb}
 use borrow.Author.Tests.{eq-eqb, eqb-true, leb-true}
 use Rattle.threads.specs.declared.Threads.{Threads}
 use Rattle.threads.specs.Threads.{hd, lst, after, before, listOf, counts, row, threaded, Sound, BLOCKS, QUEUES, noQueue}
 use Rattle.threads.proofs.Lists.{count-nil, count-hit, count-past, after-here, after-past, before-here, before-past}
 use Rattle.words.proofs.Truth.{tested, both}
-use Rattle.threads.proofs.Rows.{length-row, row-at}
+use Rattle.threads.proofs.Rows.{row-is}
 use Rattle.threads.proofs.Flat.{flat, after-flat, before-flat}
 use Rattle.threads.proofs.Read.{sound}
 use Rattle.words.specs.Words.{oneTo}
@@ -180,14 +180,6 @@ ran t s (suc n) q p y m h k z e =
 row-zero : (f : ℕ → ℕ) → 0 ≡ getD (row f) 0 0
 unfolding row
 row-zero f = refl
-
--- an array of 41 cells is the row of what its cells are
-row-is : (a : List ℕ) (f : ℕ → ℕ) → length a ≡ 41 → getD a 0 0 ≡ 0 → ((y : ℕ) → 1 ≤ y → y ≤ BLOCKS → getD a y 0 ≡ f y) → a ≡ row f
-row-is a f n z h = ext-getD 0 a (row f) (n ∙ sym (length-row f)) cell
-  where
-    cell : (i : ℕ) → i < length a → getD a i 0 ≡ getD (row f) i 0
-    cell zero k = z ∙ row-zero f
-    cell (suc i) k = h (suc i) (omega arith) (omega (arith, n)) ∙ sym (row-at f (suc i) (omega arith) (omega (arith, n)))
 
 pub unmarked : (z : ℕ) → z ≤ BLOCKS → _≡_ {A = ℕ} (getD noMarks z 0) noQueue
 unmarked z h = getD-replicate (suc BLOCKS) z noQueue 0 (omega arith)

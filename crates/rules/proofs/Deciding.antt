@@ -156,8 +156,8 @@ module _ (s : State) where
       λ pool.
       λ requests.
       λ tasks.
-      let t : (k : ℕ) → 1 ≤ k → k ≤ taskBlocks → TaskPasses s k = λ k l h. task-parts s k (all-to (taskPasses s) 24 tasks k l h) in
-      let r : (k : ℕ) → 1 ≤ k → k ≤ requestBlocks → RequestPasses s k = λ k l h. request-parts s k (all-to (requestPasses s) 16 requests k l h) in
+      let t : (k : ℕ) → 1 ≤ k → k ≤ taskBlocks → TaskPasses s k = λ k l h. task-parts s k (all-to (taskPasses s) taskBlocks tasks k l h) in
+      let r : (k : ℕ) → 1 ≤ k → k ≤ requestBlocks → RequestPasses s k = λ k l h. request-parts s k (all-to (requestPasses s) requestBlocks requests k l h) in
       record {
         directoryPasses = directory;
         inRange =
@@ -165,17 +165,17 @@ module _ (s : State) where
             (record {
               running = running;
               channel = channel;
-              tasks = to-all (taskRange s) 24 (λ k l h. t k l h .range);
-              requests = to-all (requestRange s) 16 (λ k l h. r k l h .range);
+              tasks = to-all (taskRange s) taskBlocks (λ k l h. t k l h .range);
+              requests = to-all (requestRange s) requestBlocks (λ k l h. r k l h .range);
             });
         onDefined = on-told ∙ on;
-        tasksInPlace = to-all (taskStands s) 24 (λ k l h. t k l h .stands);
-        requestsInPlace = to-all (requestStands s) 16 (λ k l h. r k l h .stands);
+        tasksInPlace = to-all (taskStands s) taskBlocks (λ k l h. t k l h .stands);
+        requestsInPlace = to-all (requestStands s) requestBlocks (λ k l h. r k l h .stands);
         freeSets =
             free-sets s
             (record {
-              tasks = to-all (taskFree s) 24 (λ k l h. t k l h .free);
-              requests = to-all (requestFree s) 16 (λ k l h. r k l h .free);
+              tasks = to-all (taskFree s) taskBlocks (λ k l h. t k l h .free);
+              requests = to-all (requestFree s) requestBlocks (λ k l h. r k l h .free);
               freeTasks = freeTasks;
               freeTasks-none = freeTasks-none;
               freeRequests = freeRequests;
@@ -184,17 +184,17 @@ module _ (s : State) where
         fieldsClear =
             all-clear s
             (record {
-              tasks = to-all (taskClear s) 24 (λ k l h. t k l h .clear);
-              requests = to-all (requestClear s) 16 (λ k l h. r k l h .clear);
+              tasks = to-all (taskClear s) taskBlocks (λ k l h. t k l h .clear);
+              requests = to-all (requestClear s) requestBlocks (λ k l h. r k l h .clear);
               task = task;
               request = request;
               pool = pool;
             });
-        coreNeeded = to-all (neededAt s) 24 (λ k l h. t k l h .needs);
+        coreNeeded = to-all (neededAt s) taskBlocks (λ k l h. t k l h .needs);
         waiters = λ k l h. t k l h .waiter;
-        owned = to-all (ownedAt s) 16 (λ k l h. sym (used-owner s (λ k l h. t k l h .free) task k (r k l h .range)) ∙ r k l h .owner);
-        checksPending = to-all (checks s) 24 (λ k l h. t k l h .check);
-        endingPending = to-all (ends s) 24 (λ k l h. t k l h .ending);
+        owned = to-all (ownedAt s) requestBlocks (λ k l h. sym (used-owner s (λ k l h. t k l h .free) task k (r k l h .range)) ∙ r k l h .owner);
+        checksPending = to-all (checks s) taskBlocks (λ k l h. t k l h .check);
+        endingPending = to-all (ends s) taskBlocks (λ k l h. t k l h .ending);
       })
 
   module _ (p : Keeps s) (waiters : (k : ℕ) → 1 ≤ k → k ≤ taskBlocks → waits s k ≡ true) where
@@ -202,27 +202,27 @@ module _ (s : State) where
     unfolding rules.tasksInPlace rules.coreNeeded rules.checksPending rules.endingPending pendingOf pending
     task-passes k l h =
         record {
-          range = all-to (taskRange s) 24 (ranges s (p .inRange) .tasks) k l h;
-          clear = all-to (taskClear s) 24 (clears s (p .fieldsClear) .tasks) k l h;
-          needs = all-to (neededAt s) 24 (p .coreNeeded) k l h;
-          stands = all-to (taskStands s) 24 (p .tasksInPlace) k l h;
-          free = all-to (taskFree s) 24 (sets s (p .freeSets) .tasks) k l h;
+          range = all-to (taskRange s) taskBlocks (ranges s (p .inRange) .tasks) k l h;
+          clear = all-to (taskClear s) taskBlocks (clears s (p .fieldsClear) .tasks) k l h;
+          needs = all-to (neededAt s) taskBlocks (p .coreNeeded) k l h;
+          stands = all-to (taskStands s) taskBlocks (p .tasksInPlace) k l h;
+          free = all-to (taskFree s) taskBlocks (sets s (p .freeSets) .tasks) k l h;
           waiter = waiters k l h;
-          check = all-to (checks s) 24 (p .checksPending) k l h;
-          ending = all-to (ends s) 24 (p .endingPending) k l h;
+          check = all-to (checks s) taskBlocks (p .checksPending) k l h;
+          ending = all-to (ends s) taskBlocks (p .endingPending) k l h;
         }
 
     request-passes : (k : ℕ) → 1 ≤ k → k ≤ requestBlocks → RequestPasses s k
     unfolding rules.requestsInPlace rules.owned
     request-passes k l h =
-        let range = all-to (requestRange s) 16 (ranges s (p .inRange) .requests) k l h in
-        let free = all-to (taskFree s) 24 (sets s (p .freeSets) .tasks) in
+        let range = all-to (requestRange s) requestBlocks (ranges s (p .inRange) .requests) k l h in
+        let free = all-to (taskFree s) taskBlocks (sets s (p .freeSets) .tasks) in
         record {
           range = range;
-          clear = all-to (requestClear s) 16 (clears s (p .fieldsClear) .requests) k l h;
-          stands = all-to (requestStands s) 16 (p .requestsInPlace) k l h;
-          free = all-to (requestFree s) 16 (sets s (p .freeSets) .requests) k l h;
-          owner = used-owner s free (clears s (p .fieldsClear) .task) k range ∙ all-to (ownedAt s) 16 (p .owned) k l h;
+          clear = all-to (requestClear s) requestBlocks (clears s (p .fieldsClear) .requests) k l h;
+          stands = all-to (requestStands s) requestBlocks (p .requestsInPlace) k l h;
+          free = all-to (requestFree s) requestBlocks (sets s (p .freeSets) .requests) k l h;
+          owner = used-owner s free (clears s (p .fieldsClear) .task) k range ∙ all-to (ownedAt s) requestBlocks (p .owned) k l h;
         }
 
     each-test : All (firstTests s)
@@ -239,8 +239,8 @@ module _ (s : State) where
         also clears s (p .fieldsClear) .task
         also clears s (p .fieldsClear) .request
         also clears s (p .fieldsClear) .pool
-        also to-all (requestPasses s) 16 (λ k l h. request-whole s k (request-passes k l h))
-        also to-all (taskPasses s) 24 (λ k l h. task-whole s k (task-passes k l h))
+        also to-all (requestPasses s) requestBlocks (λ k l h. request-whole s k (request-passes k l h))
+        also to-all (taskPasses s) taskBlocks (λ k l h. task-whole s k (task-passes k l h))
         also no-more
 
     pub passes-first : firstPass s ≡ true

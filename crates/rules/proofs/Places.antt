@@ -34,11 +34,11 @@ module _ (t : Tables) (o : Orderly t) where
 
   module _ (k : ℕ) (low : 1 ≤ k) (high : k ≤ taskBlocks) where
     range : TaskRange (t .directory .modules) (unitsOf s k) (taskAt s k)
-    range = task-range (t .directory .modules) (unitsOf s k) (taskAt s k) (all-to (taskRange s) 24 (ranges s (o .range) .tasks) k low high)
+    range = task-range (t .directory .modules) (unitsOf s k) (taskAt s k) (all-to (taskRange s) taskBlocks (ranges s (o .range) .tasks) k low high)
 
     free-blank : taskAt s k .place ≡ Free → taskAt s k ≡ noTask
     free-blank e =
-        let clear = task-clear (unitsOf s k) (taskAt s k) (all-to (taskClear s) 24 (clears s (o .clear) .tasks) k low high) in
+        let clear = task-clear (unitsOf s k) (taskAt s k) (all-to (taskClear s) taskBlocks (clears s (o .clear) .tasks) k low high) in
         task-blank (taskAt s k) (implied (eqb (taskAt s k .place) Free) (blankTask (taskAt s k)) (clear .free) (eq-eqb _ _ e))
 
     used-program : taskAt s k .place ≢ Free → taskAt s k .program < t .directory .modules
@@ -79,14 +79,14 @@ module _ (t : Tables) (o : Orderly t) where
       (d .best m low, d .worst m low, d .units m low)
 
   pub owner-low : (r : ℕ) → 1 ≤ r → r ≤ requestBlocks → requestAt s r .owner ≤ taskBlocks
-  owner-low r l h = leb-true _ _ (request-range (requestAt s r) (all-to (requestRange s) 16 (ranges s (o .range) .requests) r l h) .owner)
+  owner-low r l h = leb-true _ _ (request-range (requestAt s r) (all-to (requestRange s) requestBlocks (ranges s (o .range) .requests) r l h) .owner)
 
   -- ---- the queues
 
   -- the queue in which a task block stands is that of its place
   pub stands : (k : ℕ) → 1 ≤ k → k ≤ taskBlocks → queueFor (taskAt s k .place) (levelOf s k) ≡ standing k (s .queues)
   unfolding tasksInPlace
-  stands k l h = sym (eqb-true _ _ (both (eqb (standing k (s .queues)) (queueFor (taskAt s k .place) (levelOf s k))) _ (all-to (taskStands s) 24 (o .tasks) k l h) .0))
+  stands k l h = sym (eqb-true _ _ (both (eqb (standing k (s .queues)) (queueFor (taskAt s k .place) (levelOf s k))) _ (all-to (taskStands s) taskBlocks (o .tasks) k l h) .0))
 
   pub in-queue : (q y : ℕ) → q < QUEUES → 1 ≤ count y (queue s q) → (standing y (s .queues) ≡ q) × (1 ≤ y) × (y ≤ BLOCKS)
   in-queue q y h c =
@@ -97,7 +97,7 @@ module _ (t : Tables) (o : Orderly t) where
   request-out : (q r : ℕ) → q < 8 → 1 ≤ r → r ≤ requestBlocks → count (node r) (queue s q) ≡ 0
   unfolding requestsInPlace
   request-out q r h a b =
-      request-placed s r (o .sound .apart) (all-to (requestStands s) 16 (o .requests) r a b) .0 .only q (omega arith) ∙ channel-others (requestAt s r .place) q h
+      request-placed s r (o .sound .apart) (all-to (requestStands s) requestBlocks (o .requests) r a b) .0 .only q (omega arith) ∙ channel-others (requestAt s r .place) q h
 
   pub tasks-of : (q y : ℕ) → q < 8 → 1 ≤ count y (queue s q) → (1 ≤ y) × (y ≤ taskBlocks)
   tasks-of q y h c =

@@ -13,13 +13,11 @@ use Rattle.pools.specs.Runs.{FreeRun}
 use Rattle.pools.specs.Find.{foundOf}
 use Rattle.pools.proofs.Starts.{found-at, at-start, found-run}
 use Rattle.image.specs.declared.Entry.{Entry}
-use Rattle.image.specs.Directory.{entryAt}
-use Rattle.tables.specs.declared.Task.{Task}
-use Rattle.tables.specs.Blocks.{Ready, InCore, NotGranted, HoldsRun, noTask, withCore}
+use Rattle.tables.specs.Blocks.{Ready, InCore, NotGranted, HoldsRun, withCore}
 use Rattle.tables.specs.State.{State, coreQueue, withPool, withTask, taskAt, poolAt, queue, entryFor, levelOf, unitsOf, joining}
-use Rattle.lawful.proofs.Blocks.Sums.{field-kept}
 use Rattle.meaning.specs.Ready.{placed, startFor, fits, needsCore, givenRun, readied, awaitsCore, madeReady}
 use Rattle.scheduler.specs.Core.{seatOf, Granting}
+use Rattle.lawful.proofs.Chained.Framed.{given-level}
 
 -- ---- The search.
 
@@ -34,11 +32,6 @@ nowhere-start g n e = go (ltb (startOf g n) 64) refl e
 -- what the search finds is a free run
 start-run : (g n a : ℕ) → a ≡ startOf g n → a < 64 → FreeRun g a n
 start-run g n a e l = found-run g n a (found-at g n a (sym e) l)
-
--- a grant leaves the task its module
-pub level-granted : (s : State) (k : ℕ) → levelOf (givenRun s k) k ≡ levelOf s k
-unfolding givenRun
-level-granted s k = ap (λ (m : ℕ). entryAt (s .directory) m .level) (field-kept (λ (x : Task). x .program) (s .tasks) k k _ noTask refl)
 
 -- ---- Getting ready, by the entry that the code has in hand
 module _ (s : State) (k : ℕ) {e : Entry} (h : e ≡ entryFor s k) where
@@ -76,7 +69,7 @@ module _ (s : State) (k : ℕ) {e : Entry} (h : e ≡ entryFor s k) where
     where
       go : (b : Bool) → isEmpty (queue s (coreQueue (levelOf s k))) ≡ b → cond b (foundOf (poolAt s (levelOf s k)) (unitsOf s k)) Nowhere ≡ At a
           → madeReady s k ≡ joining (placed (givenRun s k) k Ready) (levelOf s k) k
-      go true q g = let i = seat-start f in rw (n, q, lt-ltb (startFor s k) 64 (omega (arith, i)), level-granted s k)
+      go true q g = let i = seat-start f in rw (n, q, lt-ltb (startFor s k) 64 (omega (arith, i)), given-level s k)
       go false q g = let y : _≡_ {A = ℕ} 0 1 = cc in absurd (omega arith)
 
 -- ---- Granting.

@@ -24,11 +24,12 @@ use Rattle.pools.specs.Find.{foundOf}
 use Rattle.pools.proofs.Starts.{at-start}
 use Rattle.lawful.proofs.Blocks.Sums.{field-kept}
 use Rattle.scheduler.specs.Core.{Waiter, Waiters}
-use Rattle.scheduler.proofs.Granted.{nowhere-start, level-granted}
+use Rattle.lawful.proofs.Chained.Framed.{given-level}
+use Rattle.scheduler.proofs.Granted.{nowhere-start}
 
 pub seated-as : (s : State) (q k : ℕ) → joining (placed (givenRun (leaving s q k) k) k Ready) (levelOf s k) k ≡ seated s q k
 unfolding seated readied
-seated-as s q k = rw (level-granted (leaving s q k) k)
+seated-as s q k = rw (given-level (leaving s q k) k)
 
 -- a block that leaves a queue has the same start
 pub moved-start : (s : State) (q k : ℕ) {a : ℕ} → a ≡ startFor s k → a ≡ startFor (leaving s q k) k

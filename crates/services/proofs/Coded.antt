@@ -23,6 +23,7 @@ use Rattle.lawful.specs.Resting.{Lawful}
 use Rattle.lawful.specs.Accepts.{Condition, Accepts}
 use Rattle.lawful.specs.Tables.{LawfulTables}
 use Rattle.tasking.specs.Starting.{Starting}
+use Rattle.tables.specs.Blocks.{taskBlocks, requestBlocks}
 
 -- no number of a list, in the form in which the last arm of a `match` has it
 unfoldable pub NoneOf : ℕ → List ℕ → Type 0 → Type 0
@@ -71,7 +72,7 @@ module _ {t : Tables} {c : Call} (p : LawfulTables t × Accepts (read t) c) wher
   unfolding needsTask _among_
   to-write z = transferring (rw z) (rw z)
 
-  pub to-check : c .code ≡ CHECK → Sound (t .threads) × (t .running ≤ 24) × (c .number ≤ 16)
+  pub to-check : c .code ≡ CHECK → Sound (t .threads) × (t .running ≤ taskBlocks) × (c .number ≤ requestBlocks)
   to-check z = (p .0 .pointers, p .0 .state .shape .blank .running, p .1 .held z .1)
 
   pub to-timer : c .code ≡ TIMER → LawfulTables t × (t .clock ≢ clockEnd)

@@ -3,11 +3,11 @@ use mathlib.Core.Path.{_≡_, refl, sym, ap, _∙_}
 use mathlib.Core.Bool.{true, false, true≢false}
 use mathlib.Core.Logic.{_≢_}
 use mathlib.Core.List.{List, [], _∷_, _++_, tail}
-use Prim.Native.Nat.{ℕ, _<_}
+use Prim.Native.Nat.{ℕ, _<_, suc}
 use native.Mathlib.Omega.{arith}
 use lib.ListN.{length, set, getD}
 use Rattle.threads.specs.declared.Threads.{Threads}
-use Rattle.threads.specs.Threads.{hd, count, counts, queuesOf, walk, without, Sound, Member, Outside}
+use Rattle.threads.specs.Threads.{hd, count, counts, queuesOf, walk, without, Sound, Member, Outside, QUEUES}
 use Rattle.threads.proofs.Lists.{count-hit}
 use Rattle.threads.proofs.Read.{first-of, next-of, walked, gone}
 use Rattle.threads.proofs.Walk.{none-first}
@@ -15,6 +15,7 @@ use Rattle.words.specs.Words.{isEmpty}
 use Rattle.tables.specs.declared.Tables.{Tables}
 use Rattle.tables.specs.State.{State, queue, read, pointing, tabled}
 use Rattle.tables.specs.Held.{Shows, Fit, Held, Loose}
+use Rattle.tables.specs.Blocks.{taskBlocks}
 
 -- tables that show a state are the tables of it, and so no others show it
 pub shown : {t : Tables} {s : State} → Shows t s → t ≡ tabled s
@@ -37,10 +38,10 @@ pub first-split : (l : List ℕ) {k : ℕ} → k ≡ hd l → k ≢ 0 → l ≡ 
 first-split [] e n = absurd (n e)
 first-split (a ∷ l) e n = ap (λ (i : ℕ). i ∷ l) (sym e)
 
-pub queues-nine : {h : Threads} → Sound h → length (queuesOf h) ≡ 9
+pub queues-nine : {h : Threads} → Sound h → length (queuesOf h) ≡ QUEUES
 queues-nine s = s .apart .nine
 
-module _ {h : Threads} {q : ℕ} (s : Sound h) (l : q < 9) where
+module _ {h : Threads} {q : ℕ} (s : Sound h) (l : q < QUEUES) where
   pub first-is : getD (h .first) q 0 ≡ hd (getD (queuesOf h) q [])
   first-is = first-of h s q l
 
@@ -66,7 +67,7 @@ module _ {h : Threads} {q : ℕ} (s : Sound h) (l : q < 9) where
     pub next-is : (k : ℕ) → getD (queuesOf h) q [] ≡ A ++ k ∷ B → getD (h .fwd) k 0 ≡ hd B
     next-is k e = next-of h s q l A B k e
 
-pub first-low : {t : Tables} {q k : ℕ} → Held t → q < 8 → k ≡ hd (queue (read t) q) → k ≢ 0 → k < 25
+pub first-low : {t : Tables} {q k : ℕ} → Held t → q < 8 → k ≡ hd (queue (read t) q) → k ≢ 0 → k < suc taskBlocks
 first-low h l e n = h .fit .tasks _ _ l (first-member (h .sound) (omega arith) e n .here)
 
 -- a block that leaves its queue is in none
@@ -74,5 +75,5 @@ pub left-out : {h : Threads} {q k : ℕ} → Member h q k → counts k (set (que
 left-out m = gone m
 
 -- a block of no queue can be put into any
-pub loose-free : {t : Tables} {k : ℕ} (q : ℕ) → Loose t k → q < 9 → Outside (t .threads) q k
+pub loose-free : {t : Tables} {k : ℕ} (q : ℕ) → Loose t k → q < QUEUES → Outside (t .threads) q k
 loose-free q l h = record { sound = l .held .sound; queue = h; some = l .some; low = omega (arith, l .low); none = l .out }

@@ -1,10 +1,11 @@
 -- ==== Inside: words for contracts below the public face. What the executive, its library and the demands claim does not rest on them.
 -- What the code of the executive keeps between any two functions: what tables show, and what a function may ask of the tables that it is given.
 use mathlib.Core.Path.{_≡_}
-use Prim.Native.Nat.{ℕ, _≤_, _<_}
+use Prim.Native.Nat.{ℕ, _≤_, _<_, suc}
 use Rattle.threads.specs.Threads.{count, counts, queuesOf, Sound}
 use Rattle.tables.specs.declared.Tables.{Tables}
 use Rattle.tables.specs.State.{State, channelQueue, taskAt, queue, levelOf, unitsOf, read}
+use Rattle.tables.specs.Blocks.{taskBlocks}
 
 -- the tables t show the state s: their pointers are those of nine lists apart, and s is what is read from them
 pub record Shows (t : Tables) (s : State) : Type 0 where
@@ -13,7 +14,7 @@ pub record Shows (t : Tables) (s : State) : Type 0 where
 
 -- task blocks stand in the first eight queues, request blocks in the last
 pub record Fit (s : State) : Type 0 where
-  pub tasks : (q y : ℕ) → q < 8 → 1 ≤ count y (queue s q) → y < 25
+  pub tasks : (q y : ℕ) → q < 8 → 1 ≤ count y (queue s q) → y < suc taskBlocks
   pub requests : (y : ℕ) → 1 ≤ count y (queue s channelQueue) → 24 < y
 
 -- what makes a function of the code safe
@@ -25,7 +26,7 @@ pub record Held (t : Tables) : Type 0 where
 pub record Loose (t : Tables) (k : ℕ) : Type 0 where
   pub held : Held t
   pub some : 1 ≤ k
-  pub low : k < 25
+  pub low : k < suc taskBlocks
   pub out : counts k (queuesOf (t .threads)) ≡ 0
   pub program : taskAt (read t) k .program < 32
   pub best : 1 ≤ levelOf (read t) k

@@ -92,7 +92,7 @@ module _ {B Q : ℕ → Type 0} where
     frame-parents y = ap (λ (x : Task). x .parent) (f .kept y)
 
 -- ---- The chains.
-given-level : (s : State) (k : ℕ) → levelOf (givenRun s k) k ≡ levelOf s k
+pub given-level : (s : State) (k : ℕ) → levelOf (givenRun s k) k ≡ levelOf s k
 unfolding givenRun
 given-level s k = ap (λ (j : ℕ). getD (s .directory .entries) j noEntry .level) (field-kept (λ t. t .program) (s .tasks) k k (withCore (taskAt s k) HoldsRun _) noTask refl)
 

@@ -134,10 +134,10 @@ module _ (s : State) where
         rank = depth 24;
         above = λ y b n.
             let d : y ≢ 0 = λ i. n (ap (λ (x : ℕ). taskAt s x .parent) i ∙ ap (λ (t : Task). t .parent) z) in
-            let c : upward s 23 (taskAt s y .parent) ≡ 0 = eqb-true _ 0 (all-to (λ k. eqb (upward s 24 k) 0) 24 e y (omega (arith, d)) b) in
+            let c : upward s 23 (taskAt s y .parent) ≡ 0 = eqb-true _ 0 (all-to (λ k. eqb (upward s 24 k) 0) taskBlocks e y (omega (arith, d)) b) in
             omega (arith, depth-some 23 y d, depth-ends 23 (taskAt s y .parent) c);
       }
 
   pub of-ranked : {h : List ℕ} {e : ℕ} → Shape s h e → chainsEnd s ≡ true
   unfolding chainsEnd
-  of-ranked g = to-all (λ k. eqb (upward s 24 k) 0) 24 (λ k a b. eq-eqb _ 0 (chain-ends g k a b))
+  of-ranked g = to-all (λ k. eqb (upward s 24 k) 0) taskBlocks (λ k a b. eq-eqb _ 0 (chain-ends g k a b))

@@ -81,7 +81,7 @@ module _ (s : State) (z : Sizes s) (low : (level : ℕ) → poolAt s level < 2 ^
   module _ (k : ℕ) (a : 1 ≤ k) (b : k ≤ taskBlocks) where
     placed : taskStands s k ≡ true
     unfolding tasksInPlace
-    placed = all-to (taskStands s) 24 (r .tasksInPlace) k a b
+    placed = all-to (taskStands s) taskBlocks (r .tasksInPlace) k a b
 
     in-queue : (q : ℕ) → q < QUEUES → count k (queue s q) ≡ one (queueFor (taskAt s k .place) (levelOf s k)) q
     in-queue = task-placed s k u placed .0 .only
@@ -89,19 +89,19 @@ module _ (s : State) (z : Sizes s) (low : (level : ℕ) → poolAt s level < 2 ^
     fields : Fields (s .directory) (taskAt s k .place) (taskAt s k)
     unfolding coreNeeded queueFor
     fields =
-        fields-of s k (all-to (taskRange s) 24 (range .tasks) k a b) (all-to (taskClear s) 24 (clear .tasks) k a b) (all-to (neededAt s) 24 (r .coreNeeded) k a b)
+        fields-of s k (all-to (taskRange s) taskBlocks (range .tasks) k a b) (all-to (taskClear s) taskBlocks (clear .tasks) k a b) (all-to (neededAt s) taskBlocks (r .coreNeeded) k a b)
         (λ i. passes-of s (r .eventsPass) k
         (let w = rw i at (in-queue eventQueue (omega arith)) in omega (arith, w, one-same 0 0 refl)))
 
     request-low : taskAt s k .request ≤ requestBlocks
-    request-low = leb-true _ _ (task-range (s .directory .modules) (unitsOf s k) (taskAt s k) (all-to (taskRange s) 24 (range .tasks) k a b) .request)
+    request-low = leb-true _ _ (task-range (s .directory .modules) (unitsOf s k) (taskAt s k) (all-to (taskRange s) taskBlocks (range .tasks) k a b) .request)
 
     -- "CHECK waits for an own pending request", which is no block 0
     checked : taskAt s k .place ≡ InCheck → pendingOf s k (taskAt s k .request) ≡ true
     unfolding checksPending
     checked i =
         implied (eqb (taskAt s k .place) InCheck) (pendingOf s k (taskAt s k .request))
-        (all-to (λ k. eqb (taskAt s k .place) InCheck implies pendingOf s k (taskAt s k .request)) 24 (r .checksPending) k a b) (eq-eqb _ _ i)
+        (all-to (λ k. eqb (taskAt s k .place) InCheck implies pendingOf s k (taskAt s k .request)) taskBlocks (r .checksPending) k a b) (eq-eqb _ _ i)
 
     request-some : taskAt s k .place ≡ InCheck → 1 ≤ taskAt s k .request
     request-some i =
@@ -115,18 +115,18 @@ module _ (s : State) (z : Sizes s) (low : (level : ℕ) → poolAt s level < 2 ^
           fields = fields;
           queued = in-queue;
           runs = task-placed s k u placed .1;
-          freeTasks = set-of (s .freeTasks) (taskAt s k .place) Free k (all-to (taskFree s) 24 (free .tasks) k a b);
+          freeTasks = set-of (s .freeTasks) (taskAt s k .place) Free k (all-to (taskFree s) taskBlocks (free .tasks) k a b);
           checks = λ i. pending-of s k (taskAt s k .request) (request-some i) request-low (checked i);
           ends = λ i. pending-some s k (implied (eqb (taskAt s k .place) Ending) (pending s k)
-              (all-to (λ k. eqb (taskAt s k .place) Ending implies pending s k) 24 (r .endingPending) k a b) (eq-eqb _ _ i));
+              (all-to (λ k. eqb (taskAt s k .place) Ending implies pending s k) taskBlocks (r .endingPending) k a b) (eq-eqb _ _ i));
         })
 
   -- ---- One request block.
   carried : (q : ℕ) → 1 ≤ q → q ≤ requestBlocks → Carried s [] q
   unfolding requestsInPlace owned
   carried q a b =
-      carried-of s q no-task u (all-to (requestRange s) 16 (range .requests) q a b) (all-to (requestClear s) 16 (clear .requests) q a b)
-      (all-to (requestStands s) 16 (r .requestsInPlace) q a b) (all-to (requestFree s) 16 (free .requests) q a b) (all-to (ownedAt s) 16 (r .owned) q a b)
+      carried-of s q no-task u (all-to (requestRange s) requestBlocks (range .requests) q a b) (all-to (requestClear s) requestBlocks (clear .requests) q a b)
+      (all-to (requestStands s) requestBlocks (r .requestsInPlace) q a b) (all-to (requestFree s) requestBlocks (free .requests) q a b) (all-to (ownedAt s) requestBlocks (r .owned) q a b)
 
   inside : (k : ℕ) → k < length (s .tasks) → taskAt s k .core ≡ 1 → taskAt s k .start + unitsOf s k ≤ 64
   inside k l c =

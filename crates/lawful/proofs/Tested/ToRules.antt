@@ -52,8 +52,8 @@ module _ {s : State} (g : Lawful s) where
       record {
         running = le-leb (s .running) 24 (g .shape .blank .running);
         channel = le-leb (s .channel) 16 (g .shape .blank .channel);
-        tasks = to-all (taskRange s) 24 (λ k a b. of-range s k (stands k a b .fields) (request-low k a b));
-        requests = to-all (requestRange s) 16 (λ r a b. of-request-range s r (g .shape .requests r a b));
+        tasks = to-all (taskRange s) taskBlocks (λ k a b. of-range s k (stands k a b .fields) (request-low k a b));
+        requests = to-all (requestRange s) requestBlocks (λ r a b. of-request-range s r (g .shape .requests r a b));
       }
 
   -- "events on are defined"
@@ -65,19 +65,19 @@ module _ {s : State} (g : Lawful s) where
   tasks-placed : rules.tasksInPlace s ≡ true
   unfolding rules.tasksInPlace
   tasks-placed =
-      to-all (taskStands s) 24
+      to-all (taskStands s) taskBlocks
       (λ k a b. of-task-placed s k (g .shape .sizes .queues) (level-low k a b) (record { only = stands k a b .queued }) (stands k a b .runs))
 
   requests-placed : rules.requestsInPlace s ≡ true
   unfolding rules.requestsInPlace
-  requests-placed = to-all (requestStands s) 16 (λ r a b. of-carried s r (g .shape .requests r a b) (g .shape .sizes .queues))
+  requests-placed = to-all (requestStands s) requestBlocks (λ r a b. of-carried s r (g .shape .requests r a b) (g .shape .sizes .queues))
 
   free : Sets s
   free =
       let b = g .shape .blank in
       record {
-        tasks = to-all (taskFree s) 24 (λ k a b. of-set (s .freeTasks) (taskAt s k .place) Free k (stands k a b .freeTasks));
-        requests = to-all (requestFree s) 16 (λ r a b. of-freeRequests s r (g .shape .requests r a b));
+        tasks = to-all (taskFree s) taskBlocks (λ k a b. of-set (s .freeTasks) (taskAt s k .place) Free k (stands k a b .freeTasks));
+        requests = to-all (requestFree s) requestBlocks (λ r a b. of-freeRequests s r (g .shape .requests r a b));
         freeTasks = lt-ltb (s .freeTasks) (2 ^ (taskBlocks + 1)) (b .freeTasks);
         freeTasks-none = has-not (s .freeTasks) (b .freeTasks-none);
         freeRequests = lt-ltb (s .freeRequests) (2 ^ (requestBlocks + 1)) (b .freeRequests);
@@ -88,8 +88,8 @@ module _ {s : State} (g : Lawful s) where
   clear =
       let b = g .shape .blank in
       record {
-        tasks = to-all (taskClear s) 24 (λ k a b. of-clear s k (stands k a b .fields));
-        requests = to-all (requestClear s) 16 (λ r a b. of-request-clear s r (g .shape .requests r a b));
+        tasks = to-all (taskClear s) taskBlocks (λ k a b. of-clear s k (stands k a b .fields));
+        requests = to-all (requestClear s) requestBlocks (λ r a b. of-request-clear s r (g .shape .requests r a b));
         task = of-task-blank (b .block);
         request = of-request-blank (b .request);
         pool = eq-eqb (poolAt s 0) 0 (b .pool);
@@ -101,22 +101,22 @@ module _ {s : State} (g : Lawful s) where
 
   core-needed : rules.coreNeeded s ≡ true
   unfolding rules.coreNeeded
-  core-needed = to-all (neededAt s) 24 (λ k a b. of-needed s k (stands k a b .fields))
+  core-needed = to-all (neededAt s) taskBlocks (λ k a b. of-needed s k (stands k a b .fields))
 
   all-owned : rules.owned s ≡ true
   unfolding rules.owned
-  all-owned = to-all (ownedAt s) 16 (λ r a b. of-owned s r (g .shape .requests r a b))
+  all-owned = to-all (ownedAt s) requestBlocks (λ r a b. of-owned s r (g .shape .requests r a b))
 
   checks : rules.checksPending s ≡ true
   unfolding rules.checksPending
   checks =
-      to-all (λ k. eqb (taskAt s k .place) InCheck implies pendingOf s k (taskAt s k .request)) 24
+      to-all (λ k. eqb (taskAt s k .place) InCheck implies pendingOf s k (taskAt s k .request)) taskBlocks
       (λ k a b. of-implied (eqb (taskAt s k .place) InCheck) (pendingOf s k (taskAt s k .request)) (λ i. of-pending s k _ (stands k a b .checks (eqb-true _ _ i))))
 
   endings : rules.endingPending s ≡ true
   unfolding rules.endingPending
   endings =
-      to-all (λ k. eqb (taskAt s k .place) Ending implies pending s k) 24
+      to-all (λ k. eqb (taskAt s k .place) Ending implies pending s k) taskBlocks
       (λ k a b. of-implied (eqb (taskAt s k .place) Ending) (pending s k) (λ i. let w = stands k a b .ends (eqb-true _ _ i) in some-pending s k (w .0) (w .1)))
 
   -- with none in hand, a block has a child where it is in LINK
