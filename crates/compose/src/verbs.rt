@@ -5,8 +5,9 @@ use text::word::Word;
 ghost use mathlib.Core.Bool.{true};
 ghost use mathlib.Core.Path.{_≡_};
 ghost use Prim.Native.Nat.{_<_};
+ghost use Rattle.text.specs.Words.{firstWord};
 ghost use Rattle.compose.specs.Calls.{codeOrNone};
-ghost use Rattle.compose.specs.Words.{Within};
+ghost use Rattle.compose.specs.Words.{Within, bytesOf};
 
 // What follows a first word: `operands` reads it.
 pub enum Shape {
@@ -67,6 +68,7 @@ fn at(i: usize) -> Row
 // Whether a row's word is this one.
 fn is(line: &[u8], w: Word, name: [u8; 8]) -> bool
     requires { ⌜ Within (now line) 0 w ⌝ }
+    ensures { λ r. ⌜ (r ≡ true → bytesOf (now (line .entry)) w ≡ bytesOf name (firstWord name)) × (bytesOf (now (line .entry)) w ≡ bytesOf name (firstWord name) → r ≡ true) ⌝ }
 {
     let place = word::first(&name);
     let from = place.from;
