@@ -17,11 +17,7 @@ use tables::names::IN_CHECK;
 fn awaiting(task: Task, r: u8) -> Task
     ensures { λ x. ⌜ x ≡ awaitingRequest task r ⌝ }
 {
-    let mut x = task;
-    x.place = IN_CHECK;
-    x.count = 0;
-    x.events = 0;
-    x.time = 0;
+    let mut x = blocks::moving(task, IN_CHECK);
     x.request = r as u16;
     x
 }

@@ -1,5 +1,5 @@
 -- The rules with several parts, taken apart and put together in one place, each part under a name: "every field in range", "The free blocks are sets",
--- "any field with no meaning .. is zero", of all blocks and of one. A part more is a line more in its record, in the way in and in the way back.
+-- "any field with no meaning .. is zero", of all blocks and of one. A part more is a line more in its record: both ways find it.
 use mathlib.Core.Bool.{Bool, true, not, _&&_, _||_, Bool·beq}
 use mathlib.Core.Path.{_≡_}
 use Prim.Native.Nat.{ℕ, _+_, _^_}
@@ -11,7 +11,10 @@ use Rattle.tables.specs.Blocks.{taskBlocks, requestBlocks, Free, Running, InEve
 use Rattle.tables.specs.State.{State, channelQueue, node, taskAt, requestAt, poolAt, levelOf, unitsOf}
 use Rattle.threads.specs.Threads.{noQueue}
 use Rattle.meaning.specs.Rules.{everyTask, everyRequest, taskInRange, requestInRange, inRange, queueFor, freeSets, blankTask, blankRequest, clearTask, clearRequest, fieldsClear}
-use Rattle.words.proofs.Truth.{both}
+use Rattle.words.proofs.Truth.{and-left, and-right, and-of}
+
+-- of tests that all hold, each
+pub ruleset sides = (and-left, and-right)
 
 -- ---- The tests of one block.
 
@@ -53,15 +56,11 @@ pub record Ranges (s : State) : Type 0 where
 module _ (s : State) where
   pub ranges : inRange s ≡ true → Ranges s
   unfolding inRange
-  ranges e =
-      let requests = both _ _ e in
-      let tasks = both _ _ (requests .0) in
-      let channel = both _ _ (tasks .0) in
-      record { running = channel .0; channel = channel .1; tasks = tasks .1; requests = requests .1 }
+  ranges e = search sides depth 10
 
   pub in-range : Ranges s → inRange s ≡ true
   unfolding inRange
-  in-range r = rw (r .running, r .channel, r .tasks, r .requests)
+  in-range r = search and-of
 
 -- ---- "The free blocks are sets"
 
@@ -76,24 +75,11 @@ pub record Sets (s : State) : Type 0 where
 module _ (s : State) where
   pub sets : freeSets s ≡ true → Sets s
   unfolding freeSets
-  sets e =
-      let freeRequests-none = both _ _ e in
-      let freeRequests = both _ _ (freeRequests-none .0) in
-      let freeTasks-none = both _ _ (freeRequests .0) in
-      let freeTasks = both _ _ (freeTasks-none .0) in
-      let blocks = both _ _ (freeTasks .0) in
-      record {
-        tasks = blocks .0;
-        requests = blocks .1;
-        freeTasks = freeTasks .1;
-        freeTasks-none = freeTasks-none .1;
-        freeRequests = freeRequests .1;
-        freeRequests-none = freeRequests-none .1;
-      }
+  sets e = search sides depth 10
 
   pub free-sets : Sets s → freeSets s ≡ true
   unfolding freeSets
-  free-sets f = rw (f .tasks, f .requests, f .freeTasks, f .freeTasks-none, f .freeRequests, f .freeRequests-none)
+  free-sets f = search and-of
 
 -- ---- "A free block, and any field with no meaning in the block's present place, is zero", and slot 0
 
@@ -107,16 +93,11 @@ pub record Clears (s : State) : Type 0 where
 module _ (s : State) where
   pub clears : fieldsClear s ≡ true → Clears s
   unfolding fieldsClear
-  clears e =
-      let slots = both _ _ e in
-      let blocks = both _ _ (slots .0) in
-      let pool = both _ _ (slots .1) in
-      let slot = both _ _ (pool .0) in
-      record { tasks = blocks .0; requests = blocks .1; task = slot .0; request = slot .1; pool = pool .1 }
+  clears e = search sides depth 10
 
   pub all-clear : Clears s → fieldsClear s ≡ true
   unfolding fieldsClear
-  all-clear c = rw (c .tasks, c .requests, c .task, c .request, c .pool)
+  all-clear c = search and-of
 
 -- ---- One task block, of a directory of so many modules, and a module of so many units
 
@@ -138,29 +119,17 @@ pub record TaskClear (units : ℕ) (t : Task) : Type 0 where
 
 module _ (modules units : ℕ) (t : Task) where
   pub task-range : taskInRange modules units t ≡ true → TaskRange modules units t
-  task-range e =
-      let run = both _ _ e in
-      let program = both _ _ (run .0) in
-      let request = both _ _ (program .0) in
-      let core = both _ _ (request .0) in
-      let parent = both _ _ (core .0) in
-      record { place = parent .0; parent = parent .1; core = core .1; request = request .1; program = program .1; run = run .1 }
+  task-range e = search sides depth 10
 
   pub task-in-range : TaskRange modules units t → taskInRange modules units t ≡ true
-  task-in-range r = rw (r .place, r .parent, r .core, r .request, r .program, r .run)
+  task-in-range r = search and-of
 
 module _ (units : ℕ) (t : Task) where
   pub task-clear : clearTask units t ≡ true → TaskClear units t
-  task-clear e =
-      let request = both _ _ e in
-      let time = both _ _ (request .0) in
-      let event = both _ _ (time .0) in
-      let start = both _ _ (event .0) in
-      let core = both _ _ (start .0) in
-      record { free = core .0; core = core .1; start = start .1; event = event .1; time = time .1; request = request .1 }
+  task-clear e = search sides depth 10
 
   pub clear-task : TaskClear units t → clearTask units t ≡ true
-  clear-task c = rw (c .free, c .core, c .start, c .event, c .time, c .request)
+  clear-task c = search and-of
 
 -- ---- One request block
 
@@ -171,10 +140,7 @@ pub record RequestRange (q : Request) : Type 0 where
 
 module _ (q : Request) where
   pub request-range : requestInRange q ≡ true → RequestRange q
-  request-range e =
-      let used = both _ _ e in
-      let owner = both _ _ (used .0) in
-      record { place = owner .0; owner = owner .1; used = used .1 }
+  request-range e = search sides depth 10
 
   pub request-in-range : RequestRange q → requestInRange q ≡ true
-  request-in-range r = rw (r .place, r .owner, r .used)
+  request-in-range r = search and-of

@@ -5,7 +5,8 @@ use Rattle.words.specs.Words.{allTrue}
 use Rattle.tables.specs.State.{State}
 use Rattle.meaning.specs.Rules as rules
 use Rattle.meaning.specs.Rules.{stateRules}
-use Rattle.words.proofs.Named.{Given, by-name, All, _also_, no-more}
+use Rattle.words.proofs.Truth.{and-of}
+use Rattle.meaning.proofs.Parts.{sides}
 
 -- each field is the rule of that name
 pub record Keeps (s : State) : Type 0 where
@@ -33,79 +34,9 @@ pub record Keeps (s : State) : Type 0 where
 
 module _ {s : State} where
   pub all-rules : allTrue (stateRules s) ≡ true → Keeps s
-  unfolding stateRules Given
-  all-rules e =
-      by-name (stateRules s) e (
-      λ directoryPasses.
-      λ inRange.
-      λ onDefined.
-      λ tasksInPlace.
-      λ requestsInPlace.
-      λ freeSets.
-      λ fieldsClear.
-      λ coreHeld.
-      λ chainsEnd.
-      λ idleOnlyIfNoneReady.
-      λ eventsWait.
-      λ coreWaits.
-      λ queuesInOrder.
-      λ ofTheirLevel.
-      λ coreNeeded.
-      λ eventsPass.
-      λ linked.
-      λ owned.
-      λ checksPending.
-      λ endingPending.
-      λ channelBusy.
-      record {
-        directoryPasses = directoryPasses;
-        inRange = inRange;
-        onDefined = onDefined;
-        tasksInPlace = tasksInPlace;
-        requestsInPlace = requestsInPlace;
-        freeSets = freeSets;
-        fieldsClear = fieldsClear;
-        coreHeld = coreHeld;
-        chainsEnd = chainsEnd;
-        idleOnlyIfNoneReady = idleOnlyIfNoneReady;
-        eventsWait = eventsWait;
-        coreWaits = coreWaits;
-        queuesInOrder = queuesInOrder;
-        ofTheirLevel = ofTheirLevel;
-        coreNeeded = coreNeeded;
-        eventsPass = eventsPass;
-        linked = linked;
-        owned = owned;
-        checksPending = checksPending;
-        endingPending = endingPending;
-        channelBusy = channelBusy;
-      })
-
-  each-rule : Keeps s → All (stateRules s)
-  unfolding stateRules
-  each-rule k =
-      k .directoryPasses
-      also k .inRange
-      also k .onDefined
-      also k .tasksInPlace
-      also k .requestsInPlace
-      also k .freeSets
-      also k .fieldsClear
-      also k .coreHeld
-      also k .chainsEnd
-      also k .idleOnlyIfNoneReady
-      also k .eventsWait
-      also k .coreWaits
-      also k .queuesInOrder
-      also k .ofTheirLevel
-      also k .coreNeeded
-      also k .eventsPass
-      also k .linked
-      also k .owned
-      also k .checksPending
-      also k .endingPending
-      also k .channelBusy
-      also no-more
+  unfolding stateRules allTrue
+  all-rules e = search sides depth 40 fits 4000
 
   pub rules-all : Keeps s → allTrue (stateRules s) ≡ true
-  rules-all k = each-rule k .all
+  unfolding stateRules allTrue
+  rules-all k = search and-of

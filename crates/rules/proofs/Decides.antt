@@ -66,29 +66,7 @@ module _ (t : Tables) (sound : Sound (t .threads)) where
       λ coreWaits.
       λ queuesInOrder.
       λ channelBusy.
-      record {
-        directoryPasses = p .directoryPasses;
-        inRange = p .inRange;
-        onDefined = p .onDefined;
-        tasksInPlace = p .tasksInPlace;
-        requestsInPlace = p .requestsInPlace;
-        freeSets = p .freeSets;
-        fieldsClear = p .fieldsClear;
-        coreHeld = coreHeld;
-        chainsEnd = chainsEnd;
-        idleOnlyIfNoneReady = idleOnlyIfNoneReady;
-        eventsWait = events-wait t o (p .waiters);
-        coreWaits = coreWaits;
-        queuesInOrder = queuesInOrder;
-        ofTheirLevel = their-level t o;
-        coreNeeded = p .coreNeeded;
-        eventsPass = events-pass t o (p .waiters);
-        linked = linked;
-        owned = p .owned;
-        checksPending = p .checksPending;
-        endingPending = p .endingPending;
-        channelBusy = channelBusy;
-      }))
+      search (events-wait t o (p .waiters), their-level t o, events-pass t o (p .waiters))))
 
   kept : rulesHold t ≡ true → Keeps s
   unfolding rulesHold

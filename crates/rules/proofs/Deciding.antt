@@ -9,7 +9,7 @@ use lib.Bits.{bitAnd}
 use lib.Dec.{eqb}
 use borrow.Author.Tests.{leb-true, le-leb}
 use Rattle.words.proofs.Truth.{tested, and-of, both, same-bool}
-use Rattle.words.specs.Words.{_implies_, oneTo, someOf, has}
+use Rattle.words.specs.Words.{_implies_, oneTo, someOf, has, allTrue}
 use Rattle.tables.specs.Blocks.{Free, InCheck, Ending, taskBlocks, requestBlocks}
 use Rattle.tables.specs.State.{State, taskAt, requestAt}
 use Rattle.meaning.specs.Conditions.{undefinedIn}
@@ -17,7 +17,7 @@ use Rattle.meaning.specs.Ready.{needsCore}
 use Rattle.meaning.specs.Finish.{pendingOf, pending}
 use Rattle.meaning.specs.Rules as rules
 use Rattle.meaning.specs.Rules.{blankTask}
-use Rattle.words.proofs.Named.{Given, by-name, All, _also_, no-more}
+use Rattle.words.proofs.Named.{Given, by-name}
 use Rattle.meaning.proofs.Rules.{Keeps}
 use Rattle.meaning.proofs.Parts.{taskRange, requestRange, taskStands, requestStands, taskFree, requestFree, taskClear, requestClear, ranges, in-range, sets, free-sets, clears, all-clear, request-range}
 use Rattle.fields.specs.Blocks.{waiterRight, pends, usedBy, taskPasses, requestPasses, firstTests, firstPass}
@@ -225,24 +225,15 @@ module _ (s : State) where
           owner = used-owner s free (clears s (p .fieldsClear) .task) k range ∙ all-to (ownedAt s) requestBlocks (p .owned) k l h;
         }
 
-    each-test : All (firstTests s)
-    unfolding firstTests
-    each-test =
-        p .directoryPasses
-        also ranges s (p .inRange) .running
-        also ranges s (p .inRange) .channel
-        also (sym on-told ∙ p .onDefined)
-        also sets s (p .freeSets) .freeTasks
-        also sets s (p .freeSets) .freeTasks-none
-        also sets s (p .freeSets) .freeRequests
-        also sets s (p .freeSets) .freeRequests-none
-        also clears s (p .fieldsClear) .task
-        also clears s (p .fieldsClear) .request
-        also clears s (p .fieldsClear) .pool
-        also to-all (requestPasses s) requestBlocks (λ k l h. request-whole s k (request-passes k l h))
-        also to-all (taskPasses s) taskBlocks (λ k l h. task-whole s k (task-passes k l h))
-        also no-more
-
     pub passes-first : firstPass s ≡ true
-    unfolding firstPass
-    passes-first = each-test .all
+    unfolding firstPass firstTests allTrue
+    passes-first =
+        search (
+          and-of,
+          ranges s (p .inRange),
+          sets s (p .freeSets),
+          clears s (p .fieldsClear),
+          sym on-told ∙ p .onDefined,
+          to-all (requestPasses s) requestBlocks (λ k l h. request-whole s k (request-passes k l h)),
+          to-all (taskPasses s) taskBlocks (λ k l h. task-whole s k (task-passes k l h)),
+        )

@@ -60,31 +60,27 @@ HoldsRun = 1
 abbrev pub GaveBack : ℕ
 GaveBack = 2
 
--- ---- A block from its fields, in their order; the blocks that are free.
+-- ---- A block that is new; the blocks that are free.
 
-abbrev pub task : ℕ → ℕ → ℕ → ℕ → ℕ → ℕ → ℕ → ℕ → ℕ → Task
-task p m q c a n e t r =
-    record { place = p; program = m; parent = q; core = c; start = a; count = n; events = e; time = t; request = r }
+-- a task of the module m, child of q or of none, in no place yet: whoever makes one moves it on at once
+abbrev pub newTask : ℕ → ℕ → Task
+newTask m q = record { place = Free; program = m; parent = q; core = NotGranted; start = 0; count = 0; events = 0; time = 0; request = 0 }
 
 abbrev pub request : ℕ → ℕ → ℕ → ℕ → ℕ → Request
 request p k d c n = record { place = p; owner = k; device = d; command = c; bytes = n }
 
 -- "A free block .. is zero."
 abbrev pub noTask : Task
-noTask = task Free 0 0 0 0 0 0 0 0
+noTask = newTask 0 0
 
 abbrev pub noRequest : Request
 noRequest = request Free 0 0 0 0
 
 -- ---- A task block in a new place keeps its module, its parent and its core; "any field with no meaning in the block's present place, is zero".
 
--- a task of the module m, child of q or of none, in no place yet: whoever makes one moves it on at once
-abbrev pub newTask : ℕ → ℕ → Task
-newTask m q = task Free m q NotGranted 0 0 0 0 0
-
 -- in a place, with so many of these events, this time and this request to wait for
 abbrev pub inPlace : Task → ℕ → ℕ → ℕ → ℕ → ℕ → Task
-inPlace t p count events time r = task p t.program t.parent t.core t.start count events time r
+inPlace t p n e m r = record { place = p; program = t.program; parent = t.parent; core = t.core; start = t.start; count = n; events = e; time = m; request = r }
 
 -- in a place that gives the last four fields no meaning
 abbrev pub moving : Task → ℕ → Task
@@ -102,11 +98,15 @@ awaitingRequest t r = inPlace t InCheck 0 0 0 r
 
 -- ---- A task block where it is, with another parent, or with its core changed; a request block in a new place.
 
+abbrev pub staying : Task → ℕ → ℕ → ℕ → Task
+staying t q c a =
+    record { place = t.place; program = t.program; parent = q; core = c; start = a; count = t.count; events = t.events; time = t.time; request = t.request }
+
 abbrev pub withParent : Task → ℕ → Task
-withParent t q = task t.place t.program q t.core t.start t.count t.events t.time t.request
+withParent t q = staying t q t.core t.start
 
 abbrev pub withCore : Task → ℕ → ℕ → Task
-withCore t c a = task t.place t.program t.parent c a t.count t.events t.time t.request
+withCore t c a = staying t t.parent c a
 
 abbrev pub movingRequest : Request → ℕ → Request
 movingRequest q p = request p q.owner q.device q.command q.bytes

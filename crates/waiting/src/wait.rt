@@ -23,12 +23,9 @@ use threads::CELLS;
 fn awaiting_events(task: Task, count: u8, events: u64) -> Task
     ensures { λ r. ⌜ r ≡ awaitingEvents task count events ⌝ }
 {
-    let mut x = task;
-    x.place = IN_EVENT;
+    let mut x = blocks::moving(task, IN_EVENT);
     x.count = count as u32;
     x.events = events;
-    x.time = 0;
-    x.request = 0;
     x
 }
 
@@ -36,12 +33,8 @@ fn awaiting_events(task: Task, count: u8, events: u64) -> Task
 fn awaiting_time(task: Task, time: u32) -> Task
     ensures { λ r. ⌜ r ≡ awaitingTime task time ⌝ }
 {
-    let mut x = task;
-    x.place = IN_TIME;
-    x.count = 0;
-    x.events = 0;
+    let mut x = blocks::moving(task, IN_TIME);
     x.time = time;
-    x.request = 0;
     x
 }
 

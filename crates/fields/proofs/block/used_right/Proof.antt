@@ -18,10 +18,8 @@ own-right-requires c κs = search needs
 
 returns : tie.Need-returns
 returns c =
-    let a = c .before .before .before .before .before .before in
-    let told = a .args .told in
     rw (c .before .before .core-right .ensures, c .before .place-right .ensures, c .own-right .ensures)
-    (used-whole (a .args .modules) (a .args .defined) (a .args .on) (told .stands) (told .level) (told .units) (told .runs) (told .free) (told .own) (told .pends) (a .args .x) (a .pre))
+    (search used-whole)
 
 pub used-right-spec : {M : Type 1} → statement M
 used-right-spec =
