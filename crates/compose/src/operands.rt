@@ -141,7 +141,7 @@ fn scheduled(line: &[u8], s: Scan) -> Operands
     ensures { λ r. ⌜ Follows (now (line .entry)) r ⌝ }
 {
     let n = scan::number(line, s, 255);
-    let w = scan::next(line, n.at);
+    let w = phrases::next(line, n.at);
     if w.from == w.to {
         return Operands {
             call: plain(n.value as u8, 0, 0),

@@ -15,7 +15,8 @@ use libc::STDOUT_FILENO;
 use text::word::Word;
 ghost use Prim.Native.Nat.{_≤_};
 ghost use lib.ListN.{length};
-ghost use Rattle.compose.specs.Words.{Within, Inside};
+ghost use Rattle.phrases.specs.Words.{Within};
+ghost use Rattle.compose.specs.Words.{Inside};
 ghost use Rattle.compose.specs.Session.{Held};
 
 // The line so far and its number; the image so far, and whether `every` and `events` were given; whether calls have begun, and how many were written;
@@ -210,7 +211,7 @@ fn line_read(s: Session, line: &[u8]) -> Session
     requires { ⌜ Held s ⌝ }
     ensures { λ r. ⌜ Held r ⌝ }
 {
-    let w = scan::next(line, 0);
+    let w = phrases::next(line, 0);
     if w.from == w.to {
         return s;
     }

@@ -1,12 +1,11 @@
 // The lines of a session, by their first words: one table.
-use crate::scan;
 use text::word;
 use text::word::Word;
 ghost use mathlib.Core.Bool.{true};
 ghost use mathlib.Core.Path.{_≡_};
 ghost use Prim.Native.Nat.{_<_};
 ghost use Rattle.compose.specs.Calls.{codeOrNone};
-ghost use Rattle.compose.specs.Words.{Within};
+ghost use Rattle.phrases.specs.Words.{Within};
 
 // What follows a first word: `operands` reads it.
 pub enum Shape {
@@ -71,7 +70,7 @@ fn is(line: &[u8], w: Word, name: [u8; 8]) -> bool
     let place = word::first(&name);
     let from = place.from;
     let to = place.to;
-    scan::named(line, w, &name[from..to])
+    phrases::named(line, w, &name[from..to])
 }
 
 // The row of a line's first word; of no shape where none has it.
