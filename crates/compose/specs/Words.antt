@@ -1,17 +1,10 @@
--- What a scan of a line is, from word to word.
+-- A scan of a line that has read a number.
 use mathlib.Core.List.{List}
 use Prim.Native.Nat.{ℕ, _≤_}
-use lib.ListN.{length}
-use Rattle.compose.specs.declared.scan.Scan.{Scan}
+use Rattle.faults.specs.Scans.{Inside}
+use Rattle.faults.specs.declared.Scan.{Scan}
 
--- what a scan of a line names lies in the line, and it has gone no further back than `least`
-pub record Inside (line : List ℕ) (least : ℕ) (s : Scan) : Type 0 where
-  pub further : least ≤ s .at
-  pub place : s .at ≤ length line
-  pub order : s .from ≤ s .to
-  pub word : s .to ≤ length line
-
--- the same, with a number that is at most `most`
+-- what it names lies in the line, and the number is at most `most`
 pub record Numbered (line : List ℕ) (least most : ℕ) (s : Scan) : Type 0 where
   pub scan : Inside line least s
   pub low : s .value ≤ most

@@ -1,10 +1,11 @@
 // Lists of events: numbers and ranges of numbers, parted by commas, as one set.
 use crate::scan;
-use crate::scan::Fault;
-use crate::scan::Scan;
+use faults::Fault;
+use faults::Scan;
 ghost use Prim.Native.Nat.{_≤_};
 ghost use lib.ListN.{length};
-ghost use Rattle.compose.specs.Words.{Inside, Numbered};
+ghost use Rattle.faults.specs.Scans.{Inside};
+ghost use Rattle.compose.specs.Words.{Numbered};
 
 // A set, and the scan behind it.
 pub struct Events {

@@ -1,43 +1,12 @@
 // Reading a line word by word. A scan goes on until something is wrong; from there on it stays as it is, so that a line is read from its front to its end
 // with one question at the end: was anything wrong?
+use faults::Fault;
+use faults::Scan;
 use text::decimals::Number;
 use text::word::Word;
 ghost use mathlib.Core.Path.{_≡_};
-ghost use Rattle.compose.specs.Words.{Inside, Numbered};
-
-// What is wrong with a word, or with the line.
-pub enum Fault {
-    Fine,
-    Unknown,
-    NotCall,
-    Late,
-    Twice,
-    Full,
-    Long,
-    Surplus,
-    Large(u64),
-    Backwards,
-    WantsNumber,
-    WantsLevel,
-    WantsUnits,
-    WantsDevice,
-    WantsComma,
-    WantsBytes,
-    WantsOf,
-    WantsSwitch,
-    WantsCheck,
-    WantsDone,
-    WantsCondition,
-}
-
-// Where the next word is looked for; what is wrong, and the word that is; the number read last, 0 where the last word was none.
-pub struct Scan {
-    pub at: usize,
-    pub fault: Fault,
-    pub from: usize,
-    pub to: usize,
-    pub value: u64,
-}
+ghost use Rattle.faults.specs.Scans.{Inside};
+ghost use Rattle.compose.specs.Words.{Numbered};
 
 // The scan past a line's first word, with what is wrong with it, if anything.
 pub fn begun(w: Word, fault: Fault) -> Scan
