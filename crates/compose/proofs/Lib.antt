@@ -1,3 +1,1 @@
-pub mod Place
-pub mod Ranges
 pub mod Table

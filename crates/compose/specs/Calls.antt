@@ -6,7 +6,7 @@ use Prim.Native.Nat.{ℕ, _≤_}
 use lib.Dec.{eqb}
 use Rattle.calls.specs.Calls.{known}
 use Rattle.calls.specs.declared.Call.{Call}
-use Rattle.compose.specs.Words.{Inside}
+use Rattle.faults.specs.Scans.{Inside}
 use Rattle.compose.specs.declared.operands.Operands.{Operands}
 
 -- one of document 01's codes, or 0 for none

@@ -1,34 +1,16 @@
 // Lists of events: numbers and ranges of numbers, parted by commas, as one set.
 use crate::scan;
-use crate::scan::Fault;
-use crate::scan::Scan;
-use words::sets64;
-ghost use mathlib.Core.Path.{_≡_};
-ghost use Prim.Native.Nat.{_+_, _≤_, _<_};
+use faults::Fault;
+use faults::Scan;
+ghost use Prim.Native.Nat.{_≤_};
 ghost use lib.ListN.{length};
-ghost use Rattle.compose.specs.Words.{Inside, Numbered};
-ghost use Rattle.compose.specs.Events.{ranged};
+ghost use Rattle.faults.specs.Scans.{Inside};
+ghost use Rattle.compose.specs.Words.{Numbered};
 
 // A set, and the scan behind it.
 pub struct Events {
     pub set: u64,
     pub scan: Scan,
-}
-
-// The set with the events from `first` to `last` in it.
-fn with_range(set: u64, first: u64, last: u64) -> u64
-    requires { ⌜ last < 64 ⌝ }
-    ensures { λ r. ⌜ r ≡ ranged set first (last + 1) ⌝ }
-{
-    let mut all = set;
-    let mut e: u64 = 0;
-    while e <= last {
-        if first <= e {
-            all = sets64::adding(all, e as u32);
-        }
-        e += 1;
-    }
-    all
 }
 
 // The end of a range that begins at the number `first`: that number itself, where no dash follows.
@@ -56,7 +38,7 @@ fn one(line: &[u8], s: Scan, set: u64) -> Events
     let first = scan::number(line, s, 63);
     let end = last(line, first, first.value);
     Events {
-        set: with_range(set, first.value, end.value),
+        set: phrases::with_range(set, first.value, end.value),
         scan: end,
     }
 }

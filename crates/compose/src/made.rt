@@ -1,5 +1,6 @@
 // What the numbers of a line make: a call of the line's code, or another directory.
 use calls::Call;
+use calls::codes;
 use image::Directory;
 use image::Entry;
 ghost use mathlib.Core.Path.{_≡_};
@@ -14,7 +15,7 @@ pub fn call(code: u8, c: Call) -> Call
 {
     let mut made = c;
     made.code = code;
-    if (code == 7) | (code == 8) {
+    if (code == codes::SCHEDULE) | (code == codes::WAIT) {
         return made;
     }
     made.kind = 0;

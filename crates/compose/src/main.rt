@@ -5,7 +5,6 @@
 // It knows the text form of docs/WORDS.md, the image and the 16 bytes of a call, and nothing of tables. A read may end at any byte.
 mod events;
 mod made;
-mod messages;
 mod operands;
 mod scan;
 mod session;

@@ -1,13 +1,14 @@
 // What follows a line's first word, by its shape: the numbers of a call, or those of a line of the image in the same fields.
 use crate::events;
 use crate::scan;
-use crate::scan::Fault;
-use crate::scan::Scan;
 use crate::verbs::Shape;
 use calls::Call;
+use faults::Fault;
+use faults::Scan;
 ghost use Prim.Native.Nat.{_≤_};
 ghost use Rattle.compose.specs.Calls.{Follows};
-ghost use Rattle.compose.specs.Words.{Inside, Numbered};
+ghost use Rattle.faults.specs.Scans.{Inside};
+ghost use Rattle.compose.specs.Words.{Numbered};
 
 // The numbers, and the scan behind them: they count only where nothing was wrong. Numbers that a line does not name are 0, and so is the code.
 pub struct Operands {
@@ -141,7 +142,7 @@ fn scheduled(line: &[u8], s: Scan) -> Operands
     ensures { λ r. ⌜ Follows (now (line .entry)) r ⌝ }
 {
     let n = scan::number(line, s, 255);
-    let w = scan::next(line, n.at);
+    let w = phrases::next(line, n.at);
     if w.from == w.to {
         return Operands {
             call: plain(n.value as u8, 0, 0),

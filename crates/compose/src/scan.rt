@@ -1,81 +1,12 @@
 // Reading a line word by word. A scan goes on until something is wrong; from there on it stays as it is, so that a line is read from its front to its end
 // with one question at the end: was anything wrong?
-use text::decimals;
+use faults::Fault;
+use faults::Scan;
 use text::decimals::Number;
-use text::word;
 use text::word::Word;
-ghost use mathlib.Core.Bool.{true};
 ghost use mathlib.Core.Path.{_≡_};
-ghost use Prim.Native.Nat.{_≤_};
-ghost use lib.ListN.{length};
-ghost use Rattle.text.specs.Decimals.{numberOf};
-ghost use Rattle.compose.specs.Words.{Within, Next, bytesOf, Inside, Numbered};
-
-// What is wrong with a word, or with the line.
-pub enum Fault {
-    Fine,
-    Unknown,
-    NotCall,
-    Late,
-    Twice,
-    Full,
-    Long,
-    Surplus,
-    Large(u64),
-    Backwards,
-    WantsNumber,
-    WantsLevel,
-    WantsUnits,
-    WantsDevice,
-    WantsComma,
-    WantsBytes,
-    WantsOf,
-    WantsSwitch,
-    WantsCheck,
-    WantsDone,
-    WantsCondition,
-}
-
-// Where the next word is looked for; what is wrong, and the word that is; the number read last, 0 where the last word was none.
-pub struct Scan {
-    pub at: usize,
-    pub fault: Fault,
-    pub from: usize,
-    pub to: usize,
-    pub value: u64,
-}
-
-// The next word from `at` on; an empty one stands for the end of the line.
-pub fn next(line: &[u8], at: usize) -> Word
-    requires { ⌜ at ≤ length (now line) ⌝ }
-    ensures { λ r. ⌜ Next (now (line .entry)) at r ⌝ }
-{
-    let w = word::first(&line[at..]);
-    Word {
-        from: at + w.from,
-        to: at + w.to,
-    }
-}
-
-// Whether a word is this one.
-pub fn named(line: &[u8], w: Word, name: &[u8]) -> bool
-    requires { ⌜ Within (now line) 0 w ⌝ }
-    ensures { λ r. ⌜ (r ≡ true → bytesOf (now (line .entry)) w ≡ now (name .entry)) × (bytesOf (now (line .entry)) w ≡ now (name .entry) → r ≡ true) ⌝ }
-{
-    let from = w.from;
-    let to = w.to;
-    check::same(&line[from..to], name)
-}
-
-// The number that a word is, which is to be at most `most`.
-fn number_of(line: &[u8], w: Word, most: u64) -> Number
-    requires { ⌜ Within (now line) 0 w ⌝ }
-    ensures { λ r. ⌜ r ≡ numberOf (bytesOf (now (line .entry)) w) most ⌝ }
-{
-    let from = w.from;
-    let to = w.to;
-    decimals::read(&line[from..to], most)
-}
+ghost use Rattle.faults.specs.Scans.{Inside};
+ghost use Rattle.compose.specs.Words.{Numbered};
 
 // The scan past a line's first word, with what is wrong with it, if anything.
 pub fn begun(w: Word, fault: Fault) -> Scan
@@ -146,8 +77,8 @@ pub fn expect(line: &[u8], s: Scan, name: &[u8], fault: Fault) -> Scan
     if !fine(s) {
         return s;
     }
-    let w = next(line, s.at);
-    if named(line, w, name) {
+    let w = phrases::next(line, s.at);
+    if phrases::named(line, w, name) {
         return past(w, 0);
     }
     wrong(s, fault, w)
@@ -162,8 +93,8 @@ pub fn option(line: &[u8], mut s: Scan, name: &[u8]) -> Scan
     if !fine(s) {
         return s;
     }
-    let w = next(line, s.at);
-    if named(line, w, name) {
+    let w = phrases::next(line, s.at);
+    if phrases::named(line, w, name) {
         return past(w, 1);
     }
     s
@@ -178,8 +109,8 @@ pub fn number(line: &[u8], mut s: Scan, most: u64) -> Scan
     if !fine(s) {
         return s;
     }
-    let w = next(line, s.at);
-    let found = number_of(line, w, most);
+    let w = phrases::next(line, s.at);
+    let found = phrases::number(line, w, most);
     match found {
         Number::Value(value) => past(w, value),
         Number::Large => wrong(s, Fault::Large(most), w),
@@ -195,7 +126,7 @@ pub fn end(line: &[u8], s: Scan) -> Scan
     if !fine(s) {
         return s;
     }
-    let w = next(line, s.at);
+    let w = phrases::next(line, s.at);
     if w.from == w.to {
         return s;
     }

@@ -1,21 +1,21 @@
 // A session as it is read: the line so far, the image so far, and what each line does.
 use crate::made;
-use crate::messages;
 use crate::operands;
 use crate::scan;
-use crate::scan::Fault;
-use crate::scan::Scan;
 use crate::verbs;
 use crate::verbs::Shape;
 use crate::verbs::Verb;
 use answers::Outcome;
 use calls::Call;
+use faults::Fault;
+use faults::Scan;
 use image::Directory;
 use libc::STDOUT_FILENO;
 use text::word::Word;
 ghost use Prim.Native.Nat.{_≤_};
 ghost use lib.ListN.{length};
-ghost use Rattle.compose.specs.Words.{Within, Inside};
+ghost use Rattle.phrases.specs.Words.{Within};
+ghost use Rattle.faults.specs.Scans.{Inside};
 ghost use Rattle.compose.specs.Session.{Held};
 
 // The line so far and its number; the image so far, and whether `every` and `events` were given; whether calls have begun, and how many were written;
@@ -74,7 +74,7 @@ fn refused(s: Session, line: &[u8], wrong: Scan) -> Session
     requires { ⌜ Held s × Inside (now line) 0 wrong ⌝ }
     ensures { λ r. ⌜ Held r ⌝ }
 {
-    messages::refused(s.number, line, wrong);
+    faults::refused(s.number, line, wrong);
     stopped(s)
 }
 
@@ -94,9 +94,9 @@ fn closed(mut s: Session, at_end: bool) -> Session
         return written(s, &bytes);
     };
     if at_end {
-        messages::refused_at_end(refusal);
+        faults::refused_at_end(refusal);
     } else {
-        messages::refused_image(s.number, refusal);
+        faults::refused_image(s.number, refusal);
     }
     stopped(s)
 }
@@ -210,7 +210,7 @@ fn line_read(s: Session, line: &[u8]) -> Session
     requires { ⌜ Held s ⌝ }
     ensures { λ r. ⌜ Held r ⌝ }
 {
-    let w = scan::next(line, 0);
+    let w = phrases::next(line, 0);
     if w.from == w.to {
         return s;
     }

@@ -1,5 +1,5 @@
 // The lines of a session, by their first words: one table.
-use crate::scan;
+use calls::codes;
 use text::word;
 use text::word::Word;
 ghost use mathlib.Core.Bool.{true};
@@ -7,7 +7,7 @@ ghost use mathlib.Core.Path.{_≡_};
 ghost use Prim.Native.Nat.{_<_};
 ghost use Rattle.text.specs.Words.{firstWord};
 ghost use Rattle.compose.specs.Calls.{codeOrNone};
-ghost use Rattle.compose.specs.Words.{Within, bytesOf};
+ghost use Rattle.phrases.specs.Words.{Within, bytesOf};
 
 // What follows a first word: `operands` reads it.
 pub enum Shape {
@@ -41,21 +41,21 @@ const ROWS: [Row; 19] = [
     Row(*b"events  ", 0, Shape::Events),
     Row(*b"module  ", 0, Shape::Module),
     Row(*b"call    ", 0, Shape::Call),
-    Row(*b"freemain", 1, Shape::Bare),
-    Row(*b"link    ", 5, Shape::Number),
-    Row(*b"end     ", 6, Shape::Bare),
-    Row(*b"schedule", 7, Shape::Scheduled),
-    Row(*b"wait    ", 8, Shape::Condition),
-    Row(*b"signal  ", 9, Shape::Switch),
-    Row(*b"test    ", 10, Shape::Number),
-    Row(*b"dispatch", 12, Shape::Check),
-    Row(*b"read    ", 13, Shape::Device),
-    Row(*b"write   ", 14, Shape::Device),
-    Row(*b"check   ", 15, Shape::Number),
-    Row(*b"timer   ", 32, Shape::Bare),
-    Row(*b"io      ", 33, Shape::Done),
-    Row(*b"program ", 34, Shape::Check),
-    Row(*b"start   ", 35, Shape::Number),
+    Row(*b"freemain", codes::FREEMAIN, Shape::Bare),
+    Row(*b"link    ", codes::LINK, Shape::Number),
+    Row(*b"end     ", codes::END, Shape::Bare),
+    Row(*b"schedule", codes::SCHEDULE, Shape::Scheduled),
+    Row(*b"wait    ", codes::WAIT, Shape::Condition),
+    Row(*b"signal  ", codes::SIGNAL, Shape::Switch),
+    Row(*b"test    ", codes::TEST_EVENT, Shape::Number),
+    Row(*b"dispatch", codes::DISPATCH_CHECK, Shape::Check),
+    Row(*b"read    ", codes::READ, Shape::Device),
+    Row(*b"write   ", codes::WRITE, Shape::Device),
+    Row(*b"check   ", codes::CHECK, Shape::Number),
+    Row(*b"timer   ", codes::TIMER, Shape::Bare),
+    Row(*b"io      ", codes::IO_DONE, Shape::Done),
+    Row(*b"program ", codes::PROGRAM_CHECK, Shape::Check),
+    Row(*b"start   ", codes::OPERATOR_START, Shape::Number),
 ];
 
 fn at(i: usize) -> Row
@@ -73,7 +73,7 @@ fn is(line: &[u8], w: Word, name: [u8; 8]) -> bool
     let place = word::first(&name);
     let from = place.from;
     let to = place.to;
-    scan::named(line, w, &name[from..to])
+    phrases::named(line, w, &name[from..to])
 }
 
 // The row of a line's first word; of no shape where none has it.

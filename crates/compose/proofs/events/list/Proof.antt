@@ -1,7 +1,7 @@
 -- `events::list` is safe and ends: a turn begins past a comma, so that the scan goes on.
 use Prim.Native.Nat.{_-_, _≤_}
 use lib.ListN.{length}
-use Rattle.compose.specs.Words.{Inside}
+use Rattle.faults.specs.Scans.{Inside}
 use borrow.Author.Needs.{needs}
 use Rattle.compose.proofs.events.list.Statement.{statement}
 use Rattle.compose.proofs.events.list.Tie as tie

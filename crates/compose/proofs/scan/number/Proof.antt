@@ -1,7 +1,7 @@
 -- `scan::number` meets its contract: the number of a word is at most what it was asked to be.
 use mathlib.Core.Path.{sym, _∙_}
 use Rattle.text.proofs.Digits.{value-low}
-use Rattle.compose.specs.Words.{bytesOf}
+use Rattle.phrases.specs.Words.{bytesOf}
 use borrow.Author.Needs.{needs}
 use Rattle.compose.proofs.scan.number.Statement.{statement}
 use Rattle.compose.proofs.scan.number.Tie as tie
@@ -15,8 +15,8 @@ returns c = search needs
 next-requires : tie.Need-next-requires
 next-requires c κs = search needs
 
-number-of-requires : tie.Need-number-of-requires
-number-of-requires c κs = search needs
+number-requires : tie.Need-number-requires
+number-requires c κs = search needs
 
 enum-known-found : tie.Need-enum-known-found
 enum-known-found c = search needs
@@ -40,7 +40,7 @@ returns-2 : tie.Need-returns-2
 returns-2 c =
     let s = c .before .before .before .before .before .before .before .before .before .args in
     let word = bytesOf (s .line .now) (c .before .before .before .before .before .next .result) in
-    let read = sym (c .before .before .found .given .1) ∙ c .before .before .before .before .number-of .ensures in
+    let read = sym (c .before .before .found .given .1) ∙ c .before .before .before .before .number .ensures in
     record { scan = search needs; low = rw (c .past .ensures .3) (value-low word (s .most) _ read) }
 
 returns-3 : tie.Need-returns-3
@@ -56,7 +56,7 @@ number-spec =
     fine-requires
     returns
     next-requires
-    number-of-requires
+    number-requires
     enum-known-found
     past-requires
     enum-told

@@ -1,12 +1,12 @@
--- `events::with_range` meets its contract: a turn puts in one event, or leaves it out below the range.
+-- `phrases::with_range` meets its contract: a turn puts in one event, or leaves it out below the range.
 use mathlib.Core.Path.{_≡_, refl}
 use mathlib.Core.Logic.{⊎-elim}
 use Prim.Native.Nat.{_+_, _-_, _≤_}
-use Rattle.compose.specs.Events.{ranged}
-use Rattle.compose.proofs.Ranges.{ranged-in, ranged-out, ranged-end}
+use Rattle.phrases.specs.Events.{ranged}
+use Rattle.phrases.proofs.Ranges.{ranged-in, ranged-out, ranged-end}
 use borrow.Author.Needs.{needs}
-use Rattle.compose.proofs.events.with_range.Statement.{statement}
-use Rattle.compose.proofs.events.with_range.Tie as tie
+use Rattle.phrases.proofs.with_range.Statement.{statement}
+use Rattle.phrases.proofs.with_range.Tie as tie
 
 abbrev Inv-loop : tie.InvT-loop
 Inv-loop set first last all₀ e₀ all e = (e ≤ last + 1) × (all ≡ ranged set first e)

@@ -1,8 +1,40 @@
-// What is said on standard error where something is wrong: one line, with the number of the line that is refused.
-use crate::scan::Fault;
-use crate::scan::Scan;
+// What can be wrong with a line of a session, and what is said of it on standard error: one line, with the number of the line that is refused.
 use libc::STDERR_FILENO;
-ghost use Rattle.compose.specs.Words.{Inside};
+ghost use Rattle.faults.specs.Scans.{Inside};
+
+// What is wrong with a word, or with the line.
+pub enum Fault {
+    Fine,
+    Unknown,
+    NotCall,
+    Late,
+    Twice,
+    Full,
+    Long,
+    Surplus,
+    Large(u64),
+    Backwards,
+    WantsNumber,
+    WantsLevel,
+    WantsUnits,
+    WantsDevice,
+    WantsComma,
+    WantsBytes,
+    WantsOf,
+    WantsSwitch,
+    WantsCheck,
+    WantsDone,
+    WantsCondition,
+}
+
+// Where the next word is looked for; what is wrong, and the word that is; the number read last, 0 where the last word was none.
+pub struct Scan {
+    pub at: usize,
+    pub fault: Fault,
+    pub from: usize,
+    pub to: usize,
+    pub value: u64,
+}
 
 fn say(text: &[u8]) {
     pipes::give(STDERR_FILENO, text);

@@ -7,7 +7,7 @@ use lib.ListN.{length, take, drop, length-drop}
 use lib.Seq.{take-all}
 use Rattle.text.specs.Words.{First, firstWord}
 use Rattle.text.specs.declared.word.Word.{Word}
-use Rattle.compose.specs.Words.{Next}
+use Rattle.phrases.specs.Words.{Next}
 
 further : (line : List ℕ) (at : ℕ) {w : Word} → at ≤ length line → First (drop at line) w → Next line at record { from = at + w .from; to = at + w .to }
 further line at {w} low f =

@@ -5,7 +5,7 @@ use native.Mathlib.Numerals.{add-one}
 use native.Mathlib.Omega.{arith}
 use borrow.Author.Tests.{le-leb, lt-leb}
 use Rattle.words.specs.Words.{adding}
-use Rattle.compose.specs.Events.{ranged}
+use Rattle.phrases.specs.Events.{ranged}
 
 pub ranged-end : (set first n e all : ℕ) → all ≡ ranged set first e → n ≤ e → e ≤ n → all ≡ ranged set first n
 ranged-end set first n e all so-far h k = let z : e ≡ n = omega arith in so-far ∙ ap (λ (m : ℕ). ranged set first m) z

@@ -1,8 +1,8 @@
--- `scan::next` meets its contract: the first word of what is left, `next-in`.
-use Rattle.compose.proofs.Place.{next-in}
+-- `phrases::next` meets its contract: the first word of what is left, `next-in`.
+use Rattle.phrases.proofs.Place.{next-in}
 use borrow.Author.Needs.{needs}
-use Rattle.compose.proofs.scan.next.Statement.{statement}
-use Rattle.compose.proofs.scan.next.Tie as tie
+use Rattle.phrases.proofs.next.Statement.{statement}
+use Rattle.phrases.proofs.next.Tie as tie
 
 sub-first : tie.Need-sub-first
 sub-first c = search needs
