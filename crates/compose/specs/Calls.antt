@@ -4,7 +4,7 @@ use mathlib.Core.List.{List}
 use mathlib.Core.Path.{_≡_}
 use Prim.Native.Nat.{ℕ, _≤_}
 use lib.Dec.{eqb}
-use Rattle.calls.specs.Calls.{known}
+use Rattle.calls.specs.Calls.{SCHEDULE, WAIT, known}
 use Rattle.calls.specs.declared.Call.{Call}
 use Rattle.faults.specs.Scans.{Inside}
 use Rattle.compose.specs.declared.operands.Operands.{Operands}
@@ -15,7 +15,7 @@ codeOrNone code = eqb code 0 || known code
 
 -- "Only codes 7 and 8 use kind and set."
 abbrev pub conditional : ℕ → Bool
-conditional code = eqb code 7 || eqb code 8
+conditional code = eqb code SCHEDULE || eqb code WAIT
 
 -- What follows a first word has a kind that exists, and the scan lies in the line.
 pub record Follows (line : List ℕ) (r : Operands) : Type 0 where
