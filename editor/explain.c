@@ -31,16 +31,6 @@ static const uint8_t *entry_of(const uint8_t *bytes, unsigned number)
     return bytes + AT_ENTRIES + ENTRY_LENGTH * number;
 }
 
-/* 1 plus the remainder by 65,521 of the sum of (i+1) times byte i. */
-static unsigned check_of(const uint8_t *bytes)
-{
-    unsigned long sum = 0;
-    for (unsigned i = 0; i < AT_CHECK; i++) {
-        sum += (i + 1UL) * bytes[i];
-    }
-    return 1 + (unsigned)(sum % 65521);
-}
-
 /* ---- one function for each refusal: it prints the places that the refusal
    comes from and returns how many it found */
 
@@ -62,7 +52,7 @@ static unsigned place_check(const struct image *image)
 {
     const uint8_t *stored = image->bytes + AT_CHECK;
     unsigned found = stored[0] + 256U * stored[1];
-    unsigned expected = check_of(image->bytes);
+    unsigned expected = khilzurgee_block_check(image->bytes, KHILZURGEE_IMAGE_LENGTH);
     if (found == expected) {
         return 0;
     }

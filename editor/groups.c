@@ -186,6 +186,21 @@ static void noise(void)
     }
 }
 
+/* "With all 510 bytes zero it is 1; with only byte 509 at 255 it is 64,530."
+   Then the greatest sum. Each with the check made right, too. */
+static void sums(void)
+{
+    uint8_t bytes[IMAGE_LENGTH] = {0};
+    try_image(bytes, IMAGE_LENGTH, 2);
+    try_sealed(bytes, 3);
+    bytes[AT_CHECK - 1] = 255;
+    try_image(bytes, IMAGE_LENGTH, 2);
+    try_sealed(bytes, 3);
+    memset(bytes, 255, IMAGE_LENGTH);
+    try_image(bytes, IMAGE_LENGTH, 2);
+    try_sealed(bytes, 3);
+}
+
 const struct group groups[] = {
     {"good images", good},
     {"lengths 0 to 1,100", lengths},
@@ -195,5 +210,6 @@ const struct group groups[] = {
     {"all values of the check", stored_checks},
     {"several refusals at once", several},
     {"noise", noise},
+    {"least and greatest sums", sums},
     {NULL, NULL}
 };

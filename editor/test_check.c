@@ -1,6 +1,6 @@
-/* Compares the exported image check with the independent one of second/ on
-   many images, and with the answer that is known from how the image was made,
-   where it is.
+/* Compares the exported image check and the exported block check with the
+   independent ones of second/ on many images, and the first with the answer
+   that is known from how the image was made, where it is.
 
    usage: test_check [SLIP]
 
@@ -28,13 +28,18 @@ enum {
 };
 
 static uint8_t *room; /* REGION bytes, and none before or after can be read */
-static check_function *tested;
+static check_function *tested, *tested_block;
 static const char *group;
 static unsigned long images, differences, occurred[ANSWERS];
 
 static int exported(const uint8_t *bytes, size_t length)
 {
     return khilzurgee_image_check(bytes, length);
+}
+
+static int exported_block(const uint8_t *bytes, size_t length)
+{
+    return khilzurgee_block_check(bytes, length);
 }
 
 /* The check went beyond the room: no more can be tried. */
@@ -57,24 +62,26 @@ static int make_room(void)
     return signal(SIGSEGV, outside) != SIG_ERR;
 }
 
-/* Asks the tested check about a copy of the image at 'place'. Whether it
-   answers 'expected' and leaves the copy as it was. */
-static int agrees(uint8_t *place, const uint8_t *bytes, size_t length, int expected)
+/* Asks the tested checks about a copy of the image at 'place'. Whether they
+   answer 'expected' and 'check' and leave the copy as it was. */
+static int agrees(uint8_t *place, const uint8_t *bytes, size_t length, int expected, int check)
 {
     memcpy(place, bytes, length);
-    return tested(place, length) == expected && memcmp(place, bytes, length) == 0;
+    return tested(place, length) == expected && tested_block(place, length) == check
+        && memcmp(place, bytes, length) == 0;
 }
 
 /* With its start and then with its end where nothing beyond can be read. */
 void try_image(const uint8_t *bytes, size_t length, int known)
 {
     int expected = image_refusal(bytes, length);
+    int check = length == IMAGE_LENGTH ? (int)image_check_value(bytes) : 0;
     images++;
     if (expected >= 0 && expected < ANSWERS) {
         occurred[expected]++;
     }
-    if (agrees(room, bytes, length, expected)
-        && agrees(room + REGION - length, bytes, length, expected)
+    if (agrees(room, bytes, length, expected, check)
+        && agrees(room + REGION - length, bytes, length, expected, check)
         && (known == UNKNOWN || known == expected)) {
         return;
     }
@@ -82,6 +89,7 @@ void try_image(const uint8_t *bytes, size_t length, int known)
     if (differences <= SHOWN) {
         printf("%s, image %lu of %zu bytes: the check answers %d, the second %d",
                group, images, length, tested(bytes, length), expected);
+        printf("; the block's is %d, the second %d", tested_block(bytes, length), check);
         if (known != UNKNOWN) {
             printf(", known is %d", known);
         }
@@ -105,8 +113,11 @@ static int report(void)
 
 int main(int argc, char **argv)
 {
-    tested = argc > 1 ? wrong_check(argv[1]) : exported;
-    if (argc > 2 || tested == NULL || !make_room()) {
+    check_function *wrong = argc > 1 ? wrong_check(argv[1]) : NULL;
+    check_function *wrong_of_block = argc > 1 ? wrong_block(argv[1]) : NULL;
+    tested = wrong != NULL ? wrong : exported;
+    tested_block = wrong_of_block != NULL ? wrong_of_block : exported_block;
+    if (argc > 2 || (argc > 1 && wrong == NULL && wrong_of_block == NULL) || !make_room()) {
         fprintf(stderr, "test_check: no such slip, or no memory\n");
         return 2;
     }

@@ -1,9 +1,45 @@
-/* Wrong image checks, each the right one with one slip. */
+/* Wrong image checks and wrong block checks, each the right one with one slip. */
 #include "wrong.h"
 
 #include <string.h>
 
 #include "images.h"
+
+/* ---- wrong block checks */
+
+/* The sums start one byte late: byte 509 is in none of them. */
+static int late(const uint8_t *block, size_t length)
+{
+    uint8_t copy[IMAGE_LENGTH];
+    if (length != IMAGE_LENGTH) {
+        return 0;
+    }
+    memcpy(copy, block, IMAGE_LENGTH);
+    copy[AT_CHECK - 1] = 0;
+    return (int)image_check_value(copy);
+}
+
+/* The two sums are added in the other order: the weights start at 0. */
+static int turned(const uint8_t *block, size_t length)
+{
+    unsigned total = 0, sum = 0;
+    if (length != IMAGE_LENGTH) {
+        return 0;
+    }
+    for (unsigned i = AT_CHECK; i > 0; i--) {
+        sum += total;
+        total += block[i - 1];
+    }
+    return (int)(1 + sum % 65521);
+}
+
+/* A longer block is answered too, by the check of its first 512 bytes. */
+static int longer(const uint8_t *block, size_t length)
+{
+    return length < IMAGE_LENGTH ? 0 : (int)image_check_value(block);
+}
+
+/* ---- wrong image checks */
 
 /* What the right check answers once the byte at 'at' is 'byte' and the check
    is right. */
@@ -19,14 +55,10 @@ static int answer_with(const uint8_t *bytes, size_t at, uint8_t byte)
 /* The weights of the check start at 0 and not at 1. */
 static int weights(const uint8_t *bytes, size_t length)
 {
-    unsigned sum = 0;
     if (length != IMAGE_LENGTH) {
         return image_refusal(bytes, length);
     }
-    for (unsigned i = 0; i < AT_CHECK; i++) {
-        sum += i * bytes[i];
-    }
-    if (bytes[AT_CHECK] + 256U * bytes[AT_CHECK + 1] != 1 + sum % 65521) {
+    if (bytes[AT_CHECK] + 256 * bytes[AT_CHECK + 1] != turned(bytes, length)) {
         return 2;
     }
     return answer_with(bytes, 0, bytes[0]);
@@ -73,20 +105,34 @@ static int writes(const uint8_t *bytes, size_t length)
     return answer;
 }
 
-static const struct {
-    const char *name;
+struct slip {
+    const char *name; /* NULL behind the last */
     check_function *check;
-} slips[] = {
-    {"weights", weights}, {"order", order}, {"blind", blind},
-    {"past", past}, {"before", before}, {"writes", writes}
 };
+
+static const struct slip of_images[] = {
+    {"weights", weights}, {"order", order}, {"blind", blind},
+    {"past", past}, {"before", before}, {"writes", writes}, {NULL, NULL}
+};
+
+static const struct slip of_blocks[] = {
+    {"late", late}, {"turned", turned}, {"longer", longer}, {NULL, NULL}
+};
+
+static check_function *named(const struct slip *slip, const char *name)
+{
+    while (slip->name != NULL && strcmp(slip->name, name) != 0) {
+        slip++;
+    }
+    return slip->check;
+}
 
 check_function *wrong_check(const char *name)
 {
-    for (size_t i = 0; i < sizeof slips / sizeof slips[0]; i++) {
-        if (strcmp(slips[i].name, name) == 0) {
-            return slips[i].check;
-        }
-    }
-    return NULL;
+    return named(of_images, name);
+}
+
+check_function *wrong_block(const char *name)
+{
+    return named(of_blocks, name);
 }

@@ -1,4 +1,5 @@
-/* Wrong image checks: the test has to find each of them out. */
+/* Wrong image checks and wrong block checks: the test has to find each of them
+   out. */
 #ifndef WRONG_H
 #define WRONG_H
 
@@ -7,7 +8,10 @@
 
 typedef int check_function(const uint8_t *bytes, size_t length);
 
-/* The wrong check of this name, or NULL where there is none. */
+/* The wrong image check of this name, or NULL where there is none. */
 check_function *wrong_check(const char *name);
+
+/* The wrong block check of this name, or NULL where there is none. */
+check_function *wrong_block(const char *name);
 
 #endif

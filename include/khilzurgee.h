@@ -1,5 +1,5 @@
-/* The executive for programs in C and C++: the image check, the load and one
-   call, on tables that the caller owns.
+/* The executive for programs in C and C++: the image check, a block's check,
+   the load and one call, on tables that the caller owns.
 
    A phase image is one block of 512 bytes, numbers little-endian:
 
@@ -16,10 +16,10 @@
                   (i+1) times byte i, i from 0 to 509
 
    A station links target/staticlib/libexecutive.a, which
-   'rt staticlib executive' writes; it has all three functions. A program that
-   needs the image check alone, as the editor, links the small
+   'rt staticlib executive' writes; it has all four functions. A program that
+   needs the two checks alone, as the editor, links the small
    target/staticlib/libimage.a, which 'rt staticlib image' writes. Link one of
-   the two and not both: each has the image check. Both are for x86-64 Linux
+   the two and not both: each has the two checks. Both are for x86-64 Linux
    and need nothing but the C library.
 
    The stack: a call was measured to take up to 30,584 bytes of it, a load
@@ -69,6 +69,19 @@ enum khilzurgee_answer {
    The answer is proved, for every image and every length. That 'bytes' and
    'length' belong together is for the caller to see to. */
 uint8_t khilzurgee_image_check(const uint8_t *bytes, size_t length);
+
+/* Answers the check that a block has to end with, 1 to 65,521, for a program
+   that makes or changes one: its low byte belongs in byte 510, its high byte
+   in byte 511. The bytes that stand there are not looked at.
+
+   block    as 'bytes' above
+   length   as above; all but 512 are answered by 0, which is no block's check.
+
+   It too reads none but these bytes, writes nothing, keeps nothing and always
+   returns, and its answer is proved. Neither check multiplies for a byte, for
+   processors that multiply slowly: 'editor/multiplications' looks for that in
+   the machine code. */
+uint16_t khilzurgee_block_check(const uint8_t *block, size_t length);
 
 /* ---- the tables
 

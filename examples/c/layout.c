@@ -29,11 +29,7 @@ static void make_image(uint8_t *image)
     };
     memset(image, 0, KHILZURGEE_IMAGE_LENGTH);
     memcpy(image, head, sizeof head);
-    unsigned long sum = 0;
-    for (unsigned i = 0; i < 510; i++) {
-        sum += (i + 1ul) * image[i];
-    }
-    unsigned long check = 1 + sum % 65521;
+    unsigned check = khilzurgee_block_check(image, KHILZURGEE_IMAGE_LENGTH);
     image[510] = (uint8_t)check;
     image[511] = (uint8_t)(check >> 8);
 }
@@ -177,6 +173,7 @@ int main(void)
     uint8_t image[KHILZURGEE_IMAGE_LENGTH];
     make_image(image);
     is("the image check", khilzurgee_image_check(image, sizeof image), KHILZURGEE_ACCEPTED);
+    is("the block check of 511 bytes", khilzurgee_block_check(image, sizeof image - 1), 0);
     struct khilzurgee_line line = khilzurgee_load(&tables, image, sizeof image);
     is("the refusal of the load", line.refusal, 0);
     is("the result of the load", line.result, 2);

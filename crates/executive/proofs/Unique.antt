@@ -20,6 +20,7 @@ use Rattle.calls.proofs.Unique.{one-answer}
 use Rattle.tables.specs.declared.Tables.{Tables}
 use Rattle.words.proofs.Once.{OneAnswer, facts-once}
 use Rattle.executive.proofs.khilzurgee_advance as advance
+use Rattle.executive.proofs.khilzurgee_block_check.Reads as block-check
 use Rattle.executive.proofs.khilzurgee_image_check.Reads as check
 use Rattle.executive.proofs.khilzurgee_load as lent-load
 use Rattle.executive.proofs.load.Reads as load
@@ -37,6 +38,9 @@ line-only κs given r s end end′ p q = one-answer r s _ p q
 
 pub check-only : OneAnswer check.Post
 check-only κs given r s end end′ p q = p ∙ sym q
+
+pub block-check-only : OneAnswer block-check.Post
+block-check-only κs given r s end end′ p q = p ∙ sym q
 
 -- an answer and tables that are both fixed
 module _ {M : Type 1} (𝓤 : URA M) (ns : List ℕ) (u : Tables) where

@@ -11,6 +11,7 @@ ghost use mathlib.Core.List.{[], _∷_};
 ghost use mathlib.Core.Path.{_≡_};
 ghost use Rattle.answers.specs.Answer.{refusalOf};
 ghost use Rattle.image.specs.Load.{loadOf};
+ghost use Rattle.sealed.specs.Sealed.{blockCheck};
 ghost use Rattle.meaning.specs.Step.{tablesOf, stepOf, lineOf, loadLine};
 
 // What is had after a load or a call: the tables, and the three numbers of the answer.
@@ -91,6 +92,14 @@ pub extern "C" fn khilzurgee_image_check(bytes: &[u8]) -> u8
     ensures { λ r. ⌜ r ≡ refusalOf (loadOf (now (bytes .entry)) .outcome) ⌝ }
 {
     image::khilzurgee_image_check(bytes)
+}
+
+// The check that a block of 512 bytes has to end with, 1 to 65,521; 0 for any other length.
+#[no_mangle]
+pub extern "C" fn khilzurgee_block_check(block: &[u8]) -> u16
+    ensures { λ r. ⌜ r ≡ blockCheck (now (block .entry)) ⌝ }
+{
+    image::khilzurgee_block_check(block)
 }
 
 // Loads an image into the tables that are lent, whatever they hold: all zero where it is refused. The answer is refusal, M or 0, 0.

@@ -25,7 +25,7 @@ pub check-take : (b : List ℕ) → checkOf (take 510 b) ≡ checkOf b
 unfolding checkOf
 check-take b = rw (weighted-take b 510 510 (omega arith))
 
-check-low : (b : List ℕ) → checkOf b < 2 ^ 16
+pub check-low : (b : List ℕ) → checkOf b < 2 ^ 16
 unfolding checkOf
 check-low b = omega arith
 

@@ -7,24 +7,19 @@ ghost use lib.ListN.{length, take};
 ghost use Rattle.words.specs.Words.{below, allOf};
 ghost use Rattle.sealed.specs.Sealed.{checkOf, passes, sealed, zeroAt};
 
-// What byte i adds to the sum: i + 1 times the byte.
-fn weight(i: usize, byte: u8) -> u32
-    requires { ⌜ i < 510 ⌝ }
-    ensures { λ r. ⌜ (r ≡ (i + 1) * byte) × (r ≤ 130050) ⌝ }
-{
-    (i as u32 + 1) * byte as u32
-}
-
-// The check of the first 510 bytes.
+// The check of the first 510 bytes, with no multiplication for a byte: from byte 509 down each byte is added to a total, and the total to the sum, so that byte i is
+// in the sum i + 1 times.
 pub fn check(bytes: &[u8]) -> u64
     requires { ⌜ 510 ≤ length (now bytes) ⌝ }
     ensures { λ r. ⌜ r ≡ checkOf (now (bytes .entry)) ⌝ }
 {
+    let mut total: u32 = 0;
     let mut sum: u32 = 0;
-    let mut i: usize = 0;
-    while i < 510 {
-        sum += weight(i, bytes[i]);
-        i += 1;
+    let mut i: usize = 510;
+    while 0 < i {
+        i -= 1;
+        total += bytes[i] as u32;
+        sum += total;
     }
     1 + (sum % 65521) as u64
 }

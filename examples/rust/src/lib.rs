@@ -10,6 +10,7 @@ pub use tables::{Answer, Directory, Entry, Request, Tables, Task, Threads, TABLE
 
 extern "C" {
     fn khilzurgee_image_check(bytes: *const u8, length: usize) -> u8;
+    fn khilzurgee_block_check(block: *const u8, length: usize) -> u16;
     fn khilzurgee_load(tables: *mut Tables, image: *const u8, length: usize) -> Answer;
     fn khilzurgee_advance(tables: *mut Tables, call: *const u8, length: usize) -> Answer;
 }
@@ -18,6 +19,16 @@ extern "C" {
 pub fn image_check(image: &[u8]) -> u8 {
     // SAFETY: the pointer and the length are one slice's, and a slice's pointer is never null. The function reads these bytes alone.
     unsafe { khilzurgee_image_check(image.as_ptr(), image.len()) }
+}
+
+/// The check that a block of 512 bytes has to end with, 1 to 65,521: its low byte in byte 510, its high byte in byte 511, whatever stands there now.
+/// `None` for any other length.
+pub fn block_check(block: &[u8]) -> Option<u16> {
+    // SAFETY: as in `image_check`.
+    match unsafe { khilzurgee_block_check(block.as_ptr(), block.len()) } {
+        0 => None, // which is no block's check
+        check => Some(check),
+    }
 }
 
 /// An executive with its tables.

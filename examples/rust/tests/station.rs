@@ -1,6 +1,6 @@
 //! What the safe type promises: the document's first calls, refused images, tables that hold anything, and tables stored as bytes.
 
-use khilzurgee::{image_check, Answer, Station, Tables};
+use khilzurgee::{block_check, image_check, Answer, Station, Tables};
 
 /// The image of the session in full: N 2, events 0 and 1, three modules; its check is 1,906.
 fn image() -> [u8; 512] {
@@ -42,6 +42,18 @@ fn refused_images() {
     for (wrong, refusal) in [(&image()[..511], 1), (&[][..], 1), (&[0; 512][..], 2)] {
         assert_eq!(image_check(wrong), refusal);
         assert_eq!(Station::load(wrong), Err(refusal));
+    }
+}
+
+#[test]
+fn checks_of_blocks() {
+    assert_eq!(block_check(&image()), Some(1906));
+    assert_eq!(block_check(&[0; 512]), Some(1));
+    let mut last = [0; 512];
+    last[509] = 255;
+    assert_eq!(block_check(&last), Some(64530));
+    for length in [0, 510, 511, 513, 1024] {
+        assert_eq!(block_check(&[0; 1024][..length]), None);
     }
 }
 
