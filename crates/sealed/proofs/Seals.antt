@@ -6,12 +6,12 @@ use Prim.Native.Nat.{ℕ, zero, suc, _+_, _^_, _≤_, _<_}
 use native.Mathlib.Omega.{arith}
 use borrow.Author.Tests.{eqb-true, eq-eqb}
 use lib.ListN.{length, getD, take, drop, set, length-append, length-drop, take-append-drop, List·getD-append}
-use lib.Seq.{take-at, getD-take, getD-drop, getD-append-add}
+use lib.Seq.{take-at, getD-take, getD-drop, getD-append-add, length-take-le}
 use Rattle.words.specs.Words.{below}
 use Rattle.words.specs.Bytes.{number, digit}
 use Rattle.words.proofs.Lists.{listed-length, listed-at, listed-of}
 use Rattle.words.proofs.Numbers.{digit-number, number-digits}
-use Rattle.sealed.specs.Sealed.{weighted, checkOf, passes, sealed}
+use Rattle.sealed.specs.Sealed.{weighted, checkOf, blockCheck, passes, sealed}
 
 -- ---- What the check looks at, and how great it is.
 
@@ -69,6 +69,15 @@ module _ (b : List ℕ) (long : length b ≡ 512) (bytes : (k : ℕ) → getD b 
   pub passes-sealed : sealed (take 510 b) ≡ b
   unfolding sealed
   passes-sealed = rw (check-take b, check-same) (take-append-drop 510 b)
+
+-- the number that the block check answers, put into the last two bytes, makes a block that passes
+module _ (b : List ℕ) (long : length b ≡ 512) where
+  block-check-seals : take 510 b ++ map (digit (blockCheck b)) (below 2) ≡ sealed (take 510 b)
+  unfolding blockCheck sealed
+  block-check-seals = rw (eq-eqb (length b) 512 long, check-take b)
+
+  pub block-check-passes : passes (take 510 b ++ map (digit (blockCheck b)) (below 2)) ≡ true
+  block-check-passes = ap passes block-check-seals ∙ sealed-passes (take 510 b) (length-take-le 510 b (omega arith))
 
 -- ---- Sealing puts in the last two.
 
