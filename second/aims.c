@@ -23,6 +23,19 @@ static void unknown_code(struct random *random, struct call *call)
     } while (call->code < CODES && code_table[call->code].name != NULL);
 }
 
+/* 25: FREEMAIN "while any of the caller's requests is queued or on the
+   channel"; accepted if all of them are done */
+static int freemain_with_request(const struct executive *executive,
+                                 struct call *call)
+{
+    int held = 0;
+    for (int number = 1; number <= REQUESTS; number++) {
+        held |= executive->request[number].owner == executive->running;
+    }
+    call->code = FREEMAIN;
+    return held;
+}
+
 /* 12: "module number M or more (5, 7, 35)"; 16 if it is less and the table is
    full */
 static void some_maker(const struct executive *executive,
@@ -137,7 +150,7 @@ int aim_at_refusal(const struct executive *executive, struct random *random,
         call->code = IO_DONE;
         return executive->channel == 0;
     }
-    switch (random_below(random, 11)) {
+    switch (random_below(random, 12)) {
     case 0: unknown_code(random, call); break;
     case 1: some_maker(executive, random, call, 0); break;
     case 2: bad_event(executive, random, call); break;
@@ -150,6 +163,7 @@ int aim_at_refusal(const struct executive *executive, struct random *random,
     case 9:
         some_maker(executive, random, call, 1);
         return task_lowest_free(executive) == 0;
+    case 10: return freemain_with_request(executive, call);
     default:
         call->code = IO_DONE;
         return executive->channel == 0;

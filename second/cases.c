@@ -86,7 +86,7 @@ static void try_refusal(const struct refusal_case *tried)
     struct beside said;
     struct khilzurgee_tables tables = tables_of(tried->on);
     struct khilzurgee_tables seen;
-    tables_edit(&tables, &tried->edit, 1);
+    tables_edit(&tables, tried->edits, EDITS_MOST);
     if (!refused(&tables, tried->call, tried->length, tried->refusal, &said)) {
         differs("refusals", tried->name, "the library's answer is wrong");
     } else if (said.differs != NULL) {

@@ -1,5 +1,5 @@
-/* Named cases: tables and calls made by hand, with what document 01 says of
-   them. */
+/* Named cases: tables and calls made by hand, with what the papers say of
+   them: document 01, and document 02 for what has landed of it. */
 #ifndef CASES_H
 #define CASES_H
 
@@ -48,9 +48,9 @@ struct refusal_case {
     const char *name;
     enum base on;
     struct call call;
-    struct edit edit; /* of the tables, before the call */
-    size_t length;    /* so many bytes of the call */
-    struct edit seen[SEEN_MOST]; /* what the fields are afterwards */
+    struct edit edits[EDITS_MOST]; /* of the tables, before the call */
+    size_t length;                 /* so many bytes of the call */
+    struct edit seen[SEEN_MOST];   /* what the fields are afterwards */
 };
 extern const struct refusal_case refusal_cases[];
 extern const size_t refusal_cases_count;

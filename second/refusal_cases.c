@@ -1,32 +1,58 @@
 /* Calls on either side of the line of each row of document 01's table of
-   refusals, and calls to which two rows apply. The numbers were found by hand,
-   from document 01. */
+   refusals and of document 02's 25, and calls to which two rows apply. The
+   numbers were found by hand, from the papers. */
 #include "cases.h"
 
 /* A row: the refusal, 0 if accepted; the tables; the call's code, kind, number,
    value, amount and set. */
 #define CALL(refusal, name, on, ...) \
-    {refusal, name, on, {__VA_ARGS__}, NOTHING, CALL_LENGTH, {NOTHING}}
+    {refusal, name, on, {__VA_ARGS__}, {NOTHING}, CALL_LENGTH, {NOTHING}}
 
 /* The same at the clock's end; with so many bytes; on tables that break a rule,
    with so many bytes. */
 #define AT_THE_END(refusal, name, ...)                                  \
-    {refusal, name, USUAL, {__VA_ARGS__}, SET(clock, CLOCK_END), CALL_LENGTH, \
-     {NOTHING}}
+    {refusal, name, USUAL, {__VA_ARGS__}, {SET(clock, CLOCK_END)},      \
+     CALL_LENGTH, {NOTHING}}
 #define CUT(refusal, name, length, ...) \
-    {refusal, name, USUAL, {__VA_ARGS__}, NOTHING, length, {NOTHING}}
+    {refusal, name, USUAL, {__VA_ARGS__}, {NOTHING}, length, {NOTHING}}
 #define BROKEN(refusal, name, length, ...) \
-    {refusal, name, USUAL, {__VA_ARGS__}, SET(running, 25), length, {NOTHING}}
+    {refusal, name, USUAL, {__VA_ARGS__}, {SET(running, 25)}, length, {NOTHING}}
 
 /* An accepted call, and what it leaves in a new block. */
 #define NEW_TASK(name, module, how_many, which, when, ...)                 \
-    {0, name, USUAL, {__VA_ARGS__}, NOTHING, CALL_LENGTH,                  \
+    {0, name, USUAL, {__VA_ARGS__}, {NOTHING}, CALL_LENGTH,                \
      {SET(tasks[3].program, module), SET(tasks[3].count, how_many),        \
       SET(tasks[3].events, which), SET(tasks[3].time, when)}}
 #define NEW_REQUEST(name, from, what, so_many, ...)                        \
-    {0, name, USUAL, {__VA_ARGS__}, NOTHING, CALL_LENGTH,                  \
+    {0, name, USUAL, {__VA_ARGS__}, {NOTHING}, CALL_LENGTH,                \
      {SET(requests[4].owner, 1), SET(requests[4].device, from),            \
       SET(requests[4].command, what), SET(requests[4].bytes, so_many)}}
+
+/* FREEMAIN on the usual tables, edited, and what it leaves: the core of task 1,
+   which runs, and its level's pool. */
+#define FREES(refusal, name, core_then, pool_then, ...)                    \
+    {refusal, name, USUAL, {FREEMAIN, 0, 0, 0, 0, 0}, {__VA_ARGS__},       \
+     CALL_LENGTH, {SET(tasks[1].core, core_then), SET(pools[2], pool_then)}}
+
+/* Task 1 holds 4 units; it has given them back. */
+#define HOLDS_CORE                                                         \
+    SET(directory.entries[1].units, 4), SET(tasks[1].program, 1),          \
+    SET(tasks[1].core, CORE_HELD), SET(pools[2], 0xf)
+#define GAVE_CORE_BACK                                                     \
+    SET(directory.entries[1].units, 4), SET(tasks[1].program, 1),          \
+    SET(tasks[1].core, CORE_GIVEN_BACK)
+
+/* The request on the channel, 1, is of task 2; all requests are; task 1's
+   request 3 is queued behind it. */
+#define ANOTHERS SET(requests[1].owner, 2)
+#define ALL_ANOTHERS \
+    ANOTHERS, SET(requests[3].owner, 2), SET(requests[16].owner, 2)
+#define QUEUED_BEHIND_ANOTHERS                                             \
+    ANOTHERS, SET(requests[3].place, QUEUED), SET(threads.first[8], 27),   \
+    SET(threads.last[8], 27)
+
+/* Request 1 is done too, and nothing is on the channel. */
+#define ALL_DONE SET(requests[1].place, DONE), SET(channel, 0)
 
 #define EVENTS_0_1 0x3
 #define EVENTS_0_2 0x5
@@ -47,7 +73,7 @@ const struct refusal_case refusal_cases[] = {
 
     /* 24 */
     CALL(24, "code 0", USUAL, 0, 0, 0, 0, 0, 0),
-    CALL(0, "FREEMAIN", USUAL, FREEMAIN, 0, 0, 0, 0, 0),
+    CALL(0, "FREEMAIN", FULL, FREEMAIN, 0, 0, 0, 0, 0),
     CALL(24, "code 2", USUAL, 2, 0, 0, 0, 0, 0),
     CALL(24, "code 11", USUAL, 11, 0, 0, 0, 0, 0),
     CALL(24, "code 31", USUAL, 31, 0, 0, 0, 0, 0),
@@ -55,11 +81,42 @@ const struct refusal_case refusal_cases[] = {
     CALL(24, "code 36", USUAL, 36, 0, 0, 0, 0, 0),
     CALL(24, "code 255", USUAL, 255, 0, 0, 0, 0, 0),
 
-    /* 11 */
+    /* 11: request 1 is on the channel */
     CALL(11, "no task: FREEMAIN", IDLE, FREEMAIN, 0, 0, 0, 0, 0),
     CALL(11, "no task: program check", IDLE, PROGRAM_CHECK, 0, 0, 0, 0, 0),
     CALL(0, "no task: timer", IDLE, TIMER, 0, 0, 0, 0, 0),
     CALL(0, "no task: start 0", IDLE, OPERATOR_START, 0, 0, 0, 0, 0),
+
+    /* 25: the requests 1, on the channel, and 3 and 16, done, are of task 1,
+       which runs; 2, done, is of task 2. Nobody has core. */
+    CALL(25, "FREEMAIN, 1 on the channel", USUAL, FREEMAIN, 0, 0, 0, 0, 0),
+    FREES(25, "FREEMAIN, 3 queued", CORE_NONE_YET, 0, QUEUED_BEHIND_ANOTHERS),
+    FREES(0, "FREEMAIN, all done", CORE_NONE_YET, 0, ALL_DONE),
+    FREES(0, "FREEMAIN, 1 another's", CORE_NONE_YET, 0, ANOTHERS),
+    FREES(0, "FREEMAIN, all another's", CORE_NONE_YET, 0, ALL_ANOTHERS),
+    CALL(0, "FREEMAIN, no request at all", CHAIN, FREEMAIN, 0, 0, 0, 0, 0),
+
+    /* The same; task 1 has core. */
+    FREES(25, "core: FREEMAIN, 1 on the channel", CORE_HELD, 0xf, HOLDS_CORE),
+    FREES(25, "core: FREEMAIN, 3 queued", CORE_HELD, 0xf,
+          HOLDS_CORE, QUEUED_BEHIND_ANOTHERS),
+    FREES(0, "core: FREEMAIN, all done", CORE_GIVEN_BACK, 0,
+          HOLDS_CORE, ALL_DONE),
+    FREES(0, "core: FREEMAIN, 1 another's", CORE_GIVEN_BACK, 0,
+          HOLDS_CORE, ANOTHERS),
+    FREES(0, "core: FREEMAIN, all another's", CORE_GIVEN_BACK, 0,
+          HOLDS_CORE, ALL_ANOTHERS),
+
+    /* The same; it has given its core back. */
+    FREES(25, "core given back: FREEMAIN, 1 on the channel", CORE_GIVEN_BACK, 0,
+          GAVE_CORE_BACK),
+    FREES(25, "core given back: FREEMAIN, 3 queued", CORE_GIVEN_BACK, 0,
+          GAVE_CORE_BACK, QUEUED_BEHIND_ANOTHERS),
+    FREES(0, "core given back: FREEMAIN, all done", CORE_GIVEN_BACK, 0,
+          GAVE_CORE_BACK, ALL_DONE),
+
+    /* END isn't FREEMAIN, nor is program check, which stands above. */
+    CALL(0, "END, 1 on the channel", USUAL, END, 0, 0, 0, 0, 0),
 
     /* 12: M is 3 */
     CALL(0, "LINK 2", USUAL, LINK, 0, 2, 0, 0, 0),

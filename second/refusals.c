@@ -56,6 +56,15 @@ static int nobody_runs(const struct asked *asked)
         && asked->executive->running == 0;
 }
 
+/* Document 02, E4: "Refuse FREEMAIN while any of the caller's requests is
+   queued or on the channel. Done requests don't matter, nor whether it has
+   core." */
+static int frees_under_request(const struct asked *asked)
+{
+    return asked->call->code == FREEMAIN
+        && has_pending(asked->executive, asked->executive->running);
+}
+
 /* "module number M or more (5, 7, 35)" */
 static int no_such_module(const struct asked *asked)
 {
@@ -160,7 +169,8 @@ static int clock_at_end(const struct asked *asked)
     return asked->call->code == TIMER && asked->executive->clock == CLOCK_END;
 }
 
-/* The table, in document 01's order. */
+/* The table, in document 01's order; document 02 puts 25 "directly after
+   11". */
 static const struct {
     int number;
     int (*applies)(const struct asked *asked);
@@ -169,6 +179,7 @@ static const struct {
     {10, not_16_bytes},
     {24, code_not_listed},
     {11, nobody_runs},
+    {25, frees_under_request},
     {12, no_such_module},
     {19, no_such_event},
     {22, no_such_device},

@@ -90,9 +90,9 @@ static const struct call sample_calls[] = {
     {LINK, 0, 0, 0, 0, 0},    /* 13 is made, 10 runs */
     {READ, 0, 8, 0, 10, 0},   /* request 3 */
     {CHECK, 0, 3, 0, 0, 0},   /* task 10 waits for that, 11 runs */
-    {WRITE, 0, 9, 0, 20, 0},  /* request 4 */
-    {IO_DONE, 0, 0, 0, 0, 0}, /* request 1 is done, 3 goes on the channel */
     {FREEMAIN, 0, 0, 0, 0, 0},
+    {WRITE, 0, 9, 0, 20, 0},  /* request 4; under it FREEMAIN is refused */
+    {IO_DONE, 0, 0, 0, 0, 0}, /* request 1 is done, 3 goes on the channel */
     {WAIT, AT_TIME, 0, 0, 60, 0},    /* 13 runs */
     {LINK, 0, 0, 0, 0, 0},           /* 14 is made, and runs */
     {SCHEDULE, AT_ONCE, 0, 0, 0, 0}, /* 15 */
