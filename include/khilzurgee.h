@@ -178,9 +178,39 @@ struct khilzurgee_tables {
     struct khilzurgee_threads threads;
 };
 
+/* Why a call is refused: the first number of its answer. They stand in the
+   order in which they are looked at; where several apply, the first is given.
+   The station's document 01 has all but 25, which is document 02's. */
+enum khilzurgee_refusal {
+    KHILZURGEE_TABLES_BROKEN = 9,     /* the tables break the table rules */
+    KHILZURGEE_NOT_16_BYTES = 10,     /* it is not 16 bytes */
+    KHILZURGEE_NO_CODE = 24,          /* there is no such code */
+    KHILZURGEE_NOBODY_RUNS = 11,      /* a running task is needed and none is */
+    KHILZURGEE_CORE_UNDER_READ = 25,  /* FREEMAIN while a request of the caller
+                                         is queued or on the channel */
+    KHILZURGEE_NO_MODULE = 12,        /* there is no such module */
+    KHILZURGEE_NO_EVENT = 19,         /* the event is undefined or above 63 */
+    KHILZURGEE_NO_DEVICE = 22,        /* the device is above 249 */
+    KHILZURGEE_BAD_AMOUNT = 23,       /* the byte count is 0 or above 65535, or
+                                         SIGNAL's value is not 0 or 1 */
+    KHILZURGEE_NOT_HELD = 18,         /* the caller does not hold that request
+                                         block */
+    KHILZURGEE_BAD_KIND = 13,         /* the kind is not one of this call, or an
+                                         event is undefined */
+    KHILZURGEE_BAD_COUNT = 14,        /* the count is 0 or more than the events
+                                         in the set */
+    KHILZURGEE_PAST_CLOCK_END = 15,   /* the clock plus the interval passes the
+                                         clock's end */
+    KHILZURGEE_NO_TASK_BLOCK = 16,    /* all 24 task blocks are in use */
+    KHILZURGEE_NO_REQUEST_BLOCK = 17, /* all 16 request blocks are in use */
+    KHILZURGEE_CHANNEL_EMPTY = 20,    /* nothing is on the channel */
+    KHILZURGEE_CLOCK_AT_END = 21      /* the clock is at its end */
+};
+
 /* The three numbers of an answer, as the desk prints them. */
 struct khilzurgee_line {
-    uint8_t refusal; /* 0 if accepted */
+    uint8_t refusal; /* 0 if accepted; of a call one of those above, of an
+                        image one of enum khilzurgee_answer */
     uint8_t result;  /* 0 if refused */
     uint8_t running; /* the running task afterwards, 0 if idle */
 };

@@ -1,3 +1,4 @@
 pub mod Each
+pub mod Some
 pub mod Placed
 pub mod Unique

@@ -13,6 +13,7 @@ use Rattle.blocks.proofs.free.create.Reads as create
 use Rattle.blocks.proofs.free.free_task.Reads as free-task
 use Rattle.blocks.proofs.free.free_request.Reads as free-request
 use Rattle.blocks.proofs.free.free_done.Reads as free-done
+use Rattle.blocks.proofs.pending.pending.Reads as pending
 
 pub moving-only : OneAnswer moving.Post
 moving-only κs given r s end end′ p q = p ∙ sym q
@@ -43,3 +44,6 @@ free-request-only κs given r s end end′ p q = shown-once p q
 
 pub free-done-only : OneAnswer free-done.Post
 free-done-only κs given r s end end′ p q = shown-once p q
+
+pub pending-only : OneAnswer pending.Post
+pending-only κs given r s end end′ p q = p ∙ sym q

@@ -4,3 +4,4 @@ pub mod Kept
 pub mod Aborted
 pub mod Dispatched
 pub mod Overtakes
+pub mod UnderRead

@@ -1,4 +1,3 @@
-pub mod Some
 pub mod Shown
 pub mod Finishes
 pub mod Aborts

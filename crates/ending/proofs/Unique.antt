@@ -1,13 +1,11 @@
 -- No second answer: any two results that both meet what a public function of this crate promises are equal. `Post` is the promise itself, as the contract in
--- the source states it. An equation leaves one answer, and tables that show one state are the same tables.
-use mathlib.Core.Path.{sym, _∙_}
+-- the source states it. Tables that show one state are the same tables.
 use Rattle.words.proofs.Once.{OneAnswer}
 use Rattle.tables.proofs.Held.{shown-once}
 use Rattle.ending.proofs.abort.unlink.Reads as unlink
 use Rattle.ending.proofs.abort.abort.Reads as abort
 use Rattle.ending.proofs.finish.finish.Reads as finish
 use Rattle.ending.proofs.finish.end.Reads as end
-use Rattle.ending.proofs.pending.pending.Reads as pending
 
 pub unlink-only : OneAnswer unlink.Post
 unlink-only κs given r s end end′ p q = shown-once p q
@@ -20,6 +18,3 @@ finish-only κs given r s end end′ p q = shown-once p q
 
 pub end-only : OneAnswer end.Post
 end-only κs given r s end end′ p q = shown-once p q
-
-pub pending-only : OneAnswer pending.Post
-pending-only κs given r s end end′ p q = p ∙ sym q

@@ -1,4 +1,4 @@
-// Ending: a task's requests that are pending, finishing, ending, and the abort.
+// Ending: finishing, ending, and the abort.
 //
 // It answers for what END and Program check do to a task, in 'What each call does' of document 01. It knows the tables and the scheduler, and nothing of
 // calls.
@@ -7,4 +7,3 @@
 // What it asks for is a record of specs/: the rules that hold while the task is in hand.
 pub mod abort;
 pub mod finish;
-pub mod pending;

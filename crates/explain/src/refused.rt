@@ -22,7 +22,7 @@ pub fn image(l: Line, number: u8) -> Line
     }
 }
 
-// Of a call, in the order of document 01's table; 23 has two meanings.
+// Of a call, in the order of the table; 23 has two meanings.
 pub fn call(l: Line, code: u8, number: u8) -> Line
     requires { ⌜ l .used ≤ 360 ⌝ }
     ensures { λ r. ⌜ r .used ≤ 440 ⌝ }
@@ -32,6 +32,7 @@ pub fn call(l: Line, code: u8, number: u8) -> Line
         10 => lines::text(l, b"it is not 16 bytes"),
         24 => lines::text(l, b"there is no such code"),
         11 => lines::text(l, b"a running task is needed and none is"),
+        25 => lines::text(l, b"a request of the caller is queued or on the channel"),
         12 => lines::text(l, b"there is no such module"),
         19 => lines::text(l, b"the event is undefined or above 63"),
         22 => lines::text(l, b"the device is above 249"),

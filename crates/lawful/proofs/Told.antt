@@ -1,4 +1,4 @@
--- What `demands` cites: how a step ends, what is reached, whom an abort takes, that nobody overtakes.
+-- What `demands` cites: how a step ends, what is reached, whom an abort takes, that nobody overtakes, that core stays under a read.
 pub mod Loaded
 pub mod Ends
 pub mod Results
@@ -15,3 +15,6 @@ pub mod Gone
 pub mod Turns
 pub mod GetsInTurn
 pub mod Overtakes
+pub mod Pages
+pub mod UnderRead
+pub mod Throughout

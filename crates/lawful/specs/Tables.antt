@@ -1,5 +1,4 @@
--- ==== Inside: words for contracts below the public face. What the executive, its library and the demands claim does not rest on them.
--- Tables that follow the rules, and what the types of the tables say of them.
+-- What the types of the tables say of them. Document 02's theorems of any tables that keep the rules are stated of such tables.
 use mathlib.Core.Path.{_≡_}
 use Prim.Native.Nat.{ℕ, _^_, _<_, suc}
 use lib.ListN.{length, getD}
@@ -17,7 +16,8 @@ pub record Typed (t : Tables) : Type 0 where
   pub queues : length (t .threads .first) ≡ QUEUES
   pub low : (level : ℕ) → getD (t .pools) level 0 < 2 ^ 64
 
--- the pointers are those of nine lists apart, and the state that the tables read as is lawful
+-- ==== Inside: words for contracts below the public face. What the executive, its library and the demands claim does not rest on them.
+-- Tables that follow the rules: the pointers are those of nine lists apart, and the state that the tables read as is lawful
 pub record LawfulTables (t : Tables) : Type 0 where
   pub pointers : Sound (t .threads)
   pub state : Lawful (read t)

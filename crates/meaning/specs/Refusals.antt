@@ -1,4 +1,4 @@
--- Document 01, 'Calls': the table of refusals, in its order. Each row is a number and whether it applies, by itself.
+-- Document 01, 'Calls': the table of refusals, in its order, with the rows of document 02 in their places. Each row is a number and whether it applies, by itself.
 use mathlib.Core.Bool.{Bool, not, _&&_, _||_}
 use mathlib.Core.List.{List, [], _∷_}
 use Prim.Native.Nat.{ℕ, _+_, _-_, _^_}
@@ -10,8 +10,9 @@ use Rattle.tables.specs.declared.Tables.{Tables}
 use Rattle.tables.specs.Blocks.{Free}
 use Rattle.tables.specs.State.{State, requestAt, read}
 use Rattle.calls.specs.declared.Call.{Call}
-use Rattle.calls.specs.Calls.{LINK, SCHEDULE, WAIT, SIGNAL, TEST-EVENT, READ, WRITE, CHECK, TIMER, IO-DONE, OPERATOR-START, callOf, known, needsTask}
+use Rattle.calls.specs.Calls.{FREEMAIN, LINK, SCHEDULE, WAIT, SIGNAL, TEST-EVENT, READ, WRITE, CHECK, TIMER, IO-DONE, OPERATOR-START, callOf, known, needsTask}
 use Rattle.meaning.specs.Conditions.{undefinedIn}
+use Rattle.meaning.specs.Finish.{pending}
 use Rattle.meaning.specs.Rules.{rulesHold}
 
 -- "(5, 7, 35)", "(9, 10)", "(13, 14)", "(7, 8)"
@@ -48,10 +49,13 @@ abbrev pub clockEnd : ℕ
 clockEnd = 2 ^ 32 - 1
 
 -- The rows of the table that look at the call and the state, from 24 on.
+-- Document 02, E4: "Refuse FREEMAIN while any of the caller's requests is queued or on the channel. Done requests don't matter, nor whether it has core.
+-- Refusals: 25, directly after 11."
 unfoldable pub callRows : State → Call → List Row
 callRows s c =
     24 when (not (known (c .code)))
     ∷ 11 when (needsTask (c .code) && eqb (s .running) 0)
+    ∷ 25 when (eqb (c .code) FREEMAIN && pending s (s .running))  -- E4
     ∷ 12 when (starts c && leb (s .directory .modules) (c .number))
     ∷ 19 when (tellsEvents c && undefined s (c .number))
     ∷ 22 when (transfers c && ltb 249 (c .number))

@@ -1,6 +1,6 @@
-// Refusals: the rows of document 01's table that look at a call and the tables, and the first of them that applies.
+// Refusals: the rows of the table that look at a call and the tables, and the first of them that applies.
 //
-// It answers for the table of 'Calls' from 24 on. It reads the tables and never changes them; what an accepted call does is not known here.
+// It answers for the table of document 01's 'Calls' from 24 on, with the rows of document 02 in their places. It reads the tables and never changes them; what an accepted call does is not known here.
 mod tests;
 
 use calls::Call;
@@ -12,6 +12,7 @@ use tests::bad_events;
 use tests::bad_kind;
 use tests::bad_value;
 use tests::either;
+use tests::gives_under_read;
 use tests::past_end;
 use tests::undefined;
 ghost use mathlib.Core.Path.{_≡_};
@@ -37,6 +38,7 @@ fn by_code(t: Tables, c: Call) -> u8
     let mut r: u8 = 0;
     r = next(r, 24, !codes::is_known(c.code));
     r = next(r, 11, codes::needs_task(c.code) & (t.running == 0));
+    r = next(r, 25, gives_under_read(t, c.code));
     r
 }
 

@@ -1,7 +1,9 @@
 // What the rows of the table test, on numbers that are taken out of the tables.
+use blocks::pending;
 use calls::Call;
 use calls::codes;
 use tables::Request;
+use tables::Tables;
 ghost use mathlib.Core.Bool.{not, _&&_, _||_};
 ghost use mathlib.Core.List.{[], _∷_};
 ghost use mathlib.Core.Path.{_≡_};
@@ -11,7 +13,9 @@ ghost use lib.Dec.{eqb, ltb};
 ghost use lib.ListN.{getD};
 ghost use Rattle.words.specs.Words.{_among_, has, size};
 ghost use Rattle.tables.specs.Blocks.{Free, noRequest};
-ghost use Rattle.calls.specs.Calls.{SIGNAL, WAIT};
+ghost use Rattle.tables.specs.State.{read};
+ghost use Rattle.calls.specs.Calls.{FREEMAIN, SIGNAL, WAIT};
+ghost use Rattle.meaning.specs.Finish.{pending};
 ghost use Rattle.meaning.specs.Refusals.{starts, badCount, clockEnd};
 
 // The clock's end.
@@ -22,6 +26,16 @@ pub fn either(code: u8, a: u8, b: u8) -> bool
     ensures { λ r. ⌜ r ≡ (code among (a ∷ b ∷ [])) ⌝ }
 {
     (a == code) | (b == code)
+}
+
+// "FREEMAIN while any of the caller's requests is queued or on the channel" (document 02, E4). The requests are looked at for a FREEMAIN alone.
+pub fn gives_under_read(t: Tables, code: u8) -> bool
+    ensures { λ r. ⌜ r ≡ (eqb code FREEMAIN && pending (read t) (t .running)) ⌝ }
+{
+    if code != codes::FREEMAIN {
+        return false;
+    }
+    pending::pending(t, t.running)
 }
 
 // "(5, 7, 35)"

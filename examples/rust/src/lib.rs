@@ -4,8 +4,10 @@
 
 #![deny(unsafe_op_in_unsafe_fn)]
 
+mod refusal;
 mod tables;
 
+pub use refusal::Refusal;
 pub use tables::{Answer, Directory, Entry, Request, Tables, Task, Threads, TABLES_LENGTH, TABLES_VERSION};
 
 extern "C" {

@@ -2,6 +2,7 @@
 //!
 //! Every byte of the tables is a field's: none lies between two fields or behind the last. So equal tables are equal bytes.
 
+use crate::refusal::Refusal;
 use std::fmt;
 use std::mem::{align_of, offset_of, size_of, transmute};
 
@@ -105,12 +106,19 @@ impl Tables {
 #[repr(C)]
 #[derive(Clone, Copy, Debug, PartialEq, Eq)]
 pub struct Answer {
-    /// 0 if accepted.
+    /// 0 if accepted; [`Answer::refused`] has the reason.
     pub refusal: u8,
     /// 0 if refused.
     pub result: u8,
     /// The running task afterwards, 0 if idle.
     pub running: u8,
+}
+
+impl Answer {
+    /// Why the call was refused, `None` where it was accepted. An image is refused by the numbers of [`image_check`](crate::image_check), which are none of these.
+    pub fn refused(&self) -> Option<Refusal> {
+        Refusal::of(self.refusal)
+    }
 }
 
 impl fmt::Display for Answer {

@@ -1,6 +1,6 @@
 //! What the safe type promises: the document's first calls, refused images, tables that hold anything, and tables stored as bytes.
 
-use khilzurgee::{block_check, image_check, Answer, Station, Tables};
+use khilzurgee::{block_check, image_check, Answer, Refusal, Station, Tables};
 
 /// The image of the session in full: N 2, events 0 and 1, three modules; its check is 1,906.
 fn image() -> [u8; 512] {
@@ -65,6 +65,31 @@ fn refused_calls_leave_the_tables() {
     assert_eq!(station.call(&[32; 17]), answer(10, 0, 0));
     assert_eq!(station.call(&call(6, 0)), answer(11, 0, 0));
     assert_eq!(station, before);
+}
+
+/// Document 02, E4: no giving core back under a read.
+#[test]
+fn no_freemain_under_a_read() {
+    let mut station = Station::load(&image()).expect("a good image");
+    assert_eq!(station.call(&call(35, 0)), answer(0, 1, 1));
+    let mut read = call(13, 7);
+    read[4] = 4;
+    assert_eq!(station.call(&read), answer(0, 1, 1));
+    let before = station.clone();
+    let refused = station.call(&call(1, 0));
+    assert_eq!(refused, answer(25, 0, 1));
+    assert_eq!(refused.refused(), Some(Refusal::CoreUnderRead));
+    assert_eq!(station, before);
+    assert_eq!(station.call(&call(33, 0)), answer(0, 1, 1));
+    assert_eq!(station.call(&call(1, 0)).refused(), None);
+}
+
+#[test]
+fn refusals_by_number() {
+    let known: Vec<u8> = (0..=255).filter(|number| Refusal::of(*number).is_some()).collect();
+    assert_eq!(known, (9..=25).collect::<Vec<u8>>());
+    assert!(known.iter().all(|number| Refusal::of(*number).map(|refusal| refusal as u8) == Some(*number)));
+    assert_eq!(Refusal::NobodyRuns.to_string(), "a running task is needed and none is");
 }
 
 #[test]

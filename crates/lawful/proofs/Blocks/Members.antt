@@ -10,8 +10,8 @@ use Rattle.threads.specs.Threads.{count, BLOCKS, QUEUES}
 use Rattle.words.proofs.Truth.{tested}
 use Rattle.words.specs.Words.{_among_}
 use Rattle.words.proofs.Places.{under-or-from}
-use Rattle.tables.specs.State.{State, requestAt, channelQueue, queue, levelOf}
-use Rattle.tables.specs.Blocks.{Free, Running, Ready, InCore, InEvent, InTime, taskBlocks}
+use Rattle.tables.specs.State.{State, coreQueue, channelQueue, taskAt, requestAt, queue, levelOf}
+use Rattle.tables.specs.Blocks.{Free, Running, Ready, InCore, InEvent, InTime, HoldsRun, taskBlocks}
 use Rattle.meaning.specs.Rules.{queueFor}
 use Rattle.lawful.specs.Shape.{Hand, placeOf, Stands, Shape}
 use Rattle.words.proofs.Counting.{one-same, one-other, one-eq, one-le}
@@ -98,6 +98,15 @@ module _ {s : State} {h : List ℕ} {e : ℕ} (g : Shape s h e) (k q : ℕ) (low
 
   pub member-out : k among h ≡ false
   member-out = not-in s h k (λ z. omega (arith, z, member-place))
+
+-- ---- Who holds core waits for none, in hand or not
+pub not-waiting : {s : State} {h : List ℕ} {e k : ℕ} → Shape s h e → 1 ≤ k → k ≤ taskBlocks → taskAt s k .core ≡ HoldsRun
+    → (level : ℕ) → 1 ≤ level → level ≤ 3 → count k (queue s (coreQueue level)) ≡ 0
+not-waiting {s} {h} {e} {k} g some low o level a b =
+    ⊎-elim
+    (λ z. omega (arith, z))
+    (λ z. let c = member-core g k (coreQueue level) (omega arith) z (omega arith) (omega arith) .0 in absurd (omega (arith, g .tasks k some low .fields .waits c .1, o)))
+    (under-or-from (count k (queue s (coreQueue level))) 1)
 
 -- ---- Who is in the channel queue is a request, and its owner is used
 module _ {s : State} {h : List ℕ} {e : ℕ} (g : Shape s h e) (y : ℕ) (c : 1 ≤ count y (queue s channelQueue)) where

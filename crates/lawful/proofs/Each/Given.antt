@@ -7,7 +7,6 @@ use native.Mathlib.Omega.{arith}
 use lib.Seq.{getD-set-same, getD-set-other}
 use Rattle.threads.specs.Threads.{count}
 use Rattle.words.proofs.Truth.{tested}
-use Rattle.words.proofs.Places.{under-or-from}
 use Rattle.tables.specs.declared.Task.{Task}
 use Rattle.tables.specs.State.{State, coreQueue, taskAt, poolAt, queue, levelOf, unitsOf}
 use Rattle.tables.specs.Blocks.{noTask, taskBlocks}
@@ -23,7 +22,7 @@ use Rattle.lawful.proofs.Chained.Small.{none}
 use Rattle.lawful.proofs.Chained.Framed.{Any, Framed, framed, back-ready}
 use Rattle.lawful.proofs.Blocks.Sums.{field-kept}
 use Rattle.lawful.proofs.Blocks.Cored.{recored, coring, give-back, core-units, used-holder}
-use Rattle.lawful.proofs.Blocks.Members.{level-best, level-worst, member-core}
+use Rattle.lawful.proofs.Blocks.Members.{level-best, level-worst, not-waiting}
 use Rattle.lawful.proofs.Ready.Made.{stuck-same}
 use Rattle.lawful.proofs.Ready.Served.{RestBut, serve, served-frame}
 use Rattle.lawful.proofs.Each.Calls.{settled}
@@ -45,14 +44,6 @@ module _ {s : State} {h : List ℕ} {e : ℕ} {m : List ℕ} (g : Shape s h e) (
     kept : (f : Task → ℕ) → f (recored s k 2 0 0 0) ≡ f (taskAt s k) → (y : ℕ) → f (taskAt freed y) ≡ f (taskAt s y)
     kept f c y = field-kept f (s .tasks) k y (recored s k 2 0 0 0) noTask c
 
-    -- who holds core waits for none
-    not-waiting : (level : ℕ) → 1 ≤ level → level ≤ 3 → count k (queue s (coreQueue level)) ≡ 0
-    not-waiting level a b =
-        let w = g .tasks k some low in
-        ⊎-elim
-        (λ z. omega (arith, z))
-        (λ z. let c = member-core g k (coreQueue level) (omega arith) z (omega arith) (omega arith) .0 in absurd (omega (arith, w .fields .waits c .1, o))) (under-or-from (count k (queue s (coreQueue level))) 1)
-
     pub freed-rest : RestBut freed m (levelOf s k)
     unfolding enough
     freed-rest =
@@ -68,7 +59,7 @@ module _ {s : State} {h : List ℕ} {e : ℕ} {m : List ℕ} (g : Shape s h e) (
         let best = level-best g some low u in
         let worst = level-worst g some low u in
         let w = serve best worst freed (give-back g some low o) freed-rest in
-        let own = served-frame freed (levelOf s k) .tasks k (λ c. omega (arith, c, not-waiting (levelOf s k) best worst)) in
+        let own = served-frame freed (levelOf s k) .tasks k (λ c. omega (arith, c, not-waiting g some low o (levelOf s k) best worst)) in
         record {
           shape = w .shape;
           rest = w .rest;

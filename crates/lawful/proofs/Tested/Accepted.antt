@@ -18,8 +18,9 @@ use Rattle.tables.specs.declared.Tables.{Tables}
 use Rattle.tables.specs.State.{State, requestAt, read}
 use Rattle.tables.specs.Blocks.{noRequest, requestBlocks}
 use Rattle.calls.specs.declared.Call.{Call}
-use Rattle.calls.specs.Calls.{WAIT, SIGNAL, CHECK, TIMER, IO-DONE, callOf, known, needsTask}
+use Rattle.calls.specs.Calls.{FREEMAIN, WAIT, SIGNAL, CHECK, TIMER, IO-DONE, callOf, known, needsTask}
 use Rattle.meaning.specs.Conditions.{undefinedIn}
+use Rattle.meaning.specs.Finish.{pending}
 use Rattle.meaning.specs.Rules.{rulesHold}
 use Rattle.meaning.specs.Refusals.{starts, tellsEvents, transfers, waits, undefined, held, badCount, badKind, clockEnd, callRows, refusals}
 use Rattle.lawful.specs.Resting.{Lawful}
@@ -50,6 +51,7 @@ module _ (s : State) (c : Call) (e : firstOf (callRows s c) ≡ 0) where
       record {
         known = not-false (known (c .code)) (not-by 24);
         running = λ z. eqb-false _ _ (and-fails (needsTask (c .code)) (eqb (s .running) 0) (not-by 11) z);
+        quiet = λ z. and-fails (eqb (c .code) FREEMAIN) (pending s (s .running)) (not-by 25) (eq-eqb _ _ z);
         program = λ z. leb-false _ _ (and-fails (starts c) (leb (s .directory .modules) (c .number)) (not-by 12) z);
         block = λ z. eqb-false _ _ (and-fails (starts c) (eqb (s .freeTasks) 0) (not-by 16) z);
         event = λ z.

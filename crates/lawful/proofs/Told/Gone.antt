@@ -31,7 +31,7 @@ use Rattle.lawful.proofs.Each.Finish.{Finishes}
 use Rattle.lawful.proofs.Chained.Stays.{set-own}
 use Rattle.lawful.proofs.Each.Abort.{done, end-alone, aborted-none, aborted-step, upward-zero, upward-step, starts-abort}
 use Rattle.lawful.proofs.Told.Taken.{some, on, not-again, above, absent, upward-stopped, the-chain, check-takes}
-use Rattle.lawful.proofs.Told.Others.{Other, unlinked-parent, others-stay}
+use Rattle.lawful.proofs.Told.Others.{Other, freed-free, unlinked-parent, others-stay}
 
 pub record Gone (s : State) (y : ℕ) : Type 0 where
   pub place : (taskAt s y .place ≡ Free) ⊎ (taskAt s y .place ≡ Ending)
@@ -51,9 +51,8 @@ waits-gone : (s : State) (k : ℕ) → taskAt s k .parent ≡ 0 → Gone (placed
 waits-gone s k e = is-gone (placed s k Ending) k refl e (set-own _ noTask (s .tasks) k)
 
 free-gone : (s : State) (k : ℕ) → Gone (freedTask s k) k
-unfolding freedTask
 free-gone s k =
-    let e = ⊎-elim (λ z. z) (λ z. z) (set-own noTask noTask (s .tasks) k) in
+    let e = freed-free s k in
     record { place = inl (ap (λ (t : Task). t .place) e); parent = ap (λ (t : Task). t .parent) e }
 
 freed-gone : (s : State) (k : ℕ) → Gone (finished s k) k

@@ -99,6 +99,10 @@ other-block s k y x d = ⊎-elim (λ e. e) (λ e. absurd (d (e .0))) (set-at x n
 other-next : (s t u : State) (y : ℕ) → Other s t y → taskAt u y ≡ taskAt t y → Other s u y
 other-next s t u y a e = let w = ap (λ (x : Task). x .place) e in ⊎-elim (λ i. inl (w ∙ i)) (λ i. inr (w ∙ i)) a
 
+pub freed-free : (s : State) (k : ℕ) → taskAt (freedTask s k) k ≡ noTask
+unfolding freedTask
+freed-free s k = ⊎-elim (λ z. z) (λ z. z) (set-own noTask noTask (s .tasks) k)
+
 freed-other : (s : State) (k y : ℕ) → y ≢ k → taskAt (freedTask s k) y ≡ taskAt s y
 unfolding freedTask
 freed-other s k y d = other-block s k y noTask d

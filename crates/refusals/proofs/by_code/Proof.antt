@@ -20,4 +20,6 @@ by-code-spec =
     (search needs)
     (search needs)
     (search needs)
+    (search needs)
+    (search needs)
     returns)

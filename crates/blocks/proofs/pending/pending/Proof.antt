@@ -5,9 +5,9 @@ use native.Mathlib.Omega.{arith}
 use Rattle.words.specs.Words.{oneTo, someOf}
 use Rattle.tables.specs.State.{read}
 use Rattle.meaning.specs.Finish.{pendingOf, pending}
-use Rattle.ending.proofs.Some.{some-start, some-next, some-end}
-use Rattle.ending.proofs.pending.pending.Statement.{statement}
-use Rattle.ending.proofs.pending.pending.Tie as tie
+use Rattle.blocks.proofs.Some.{some-start, some-next, some-end}
+use Rattle.blocks.proofs.pending.pending.Statement.{statement}
+use Rattle.blocks.proofs.pending.pending.Tie as tie
 use Rattle.tables.specs.Blocks.{requestBlocks}
 
 abbrev Inv-loop : tie.InvT-loop
