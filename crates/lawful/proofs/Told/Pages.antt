@@ -9,6 +9,7 @@ use native.Mathlib.Omega.{arith}
 use lib.ListN.{set, getD}
 use lib.Seq.{getD-set-other}
 use lib.Dec.{eqb, leb, ltb}
+use borrow.Author.Tests.{eqb-true}
 use Rattle.threads.specs.Threads.{hd, count}
 use Rattle.words.proofs.Truth.{tested}
 use Rattle.words.specs.Words.{if_then_else_, isEmpty, oneTo, each}
@@ -21,14 +22,13 @@ use Rattle.meaning.specs.Ready.{needsCore, readied, madeReady, bestReady, runsF
 use Rattle.meaning.specs.Finish.{freedTask, freedRequest, givenBack, pending, freedIfDone, freedDone, parentReady, finished, ended}
 use Rattle.meaning.specs.Channel.{channelFilled}
 use Rattle.meaning.specs.Services.{stopped, woken, timely}
+use Rattle.lawful.specs.Shape.{Pending}
 use Rattle.lawful.proofs.Blocks.Sums.{field-kept}
+use Rattle.lawful.proofs.Blocks.Ask.{pending-kept}
 use Rattle.lawful.proofs.Chained.Small.{none}
 use Rattle.lawful.proofs.Chained.Framed.{Any, Framed, framed, made-ready, frame-requests}
 use Rattle.lawful.proofs.Ready.Cases.{kept, none-ready, dispatches}
 use Rattle.lawful.proofs.Each.Given.{back-frame}
-use borrow.Author.Tests.{eqb-true}
-use Rattle.lawful.specs.Shape.{Pending}
-use Rattle.lawful.proofs.Blocks.Ask.{pending-kept}
 use Rattle.lawful.proofs.Each.IoDone.{owner}
 
 -- what is kept of a block: all but its place, what it waits for, and its parent
@@ -49,6 +49,15 @@ needs-none y s h = rw h (and-false (ltb 0 (unitsOf s y)))
 -- it does not wait for core of the level of the task k
 abbrev pub Out : ℕ → State → ℕ → Type 0
 Out y s k = count y (queue s (coreQueue (levelOf s k))) ≡ 0
+
+-- the channel takes the next request: no task block changes
+pub filled-tasks : (s : State) → channelFilled s .tasks ≡ s .tasks
+unfolding channelFilled
+filled-tasks s = go (eqb (s .channel) 0 && not (isEmpty (queue s channelQueue))) _ refl
+  where
+    go : (b : Bool) (x : State) → x .tasks ≡ s .tasks → (if b then x else s) .tasks ≡ s .tasks
+    go true x e = e
+    go false x e = refl
 
 -- what making a task ready touches: the task
 pub made-frame : (s : State) (k : ℕ) → Framed (λ j. j ≡ k) Any s (madeReady s k)
@@ -108,8 +117,11 @@ module _ {y : ℕ} where
   stopped-same s p = block-same s (s .running) (moving (taskAt s (s .running)) p) refl refl
 
   pub filled-same : (s : State) → Same y s (channelFilled s)
-  unfolding channelFilled
-  filled-same s = either (eqb (s .channel) 0 && not (isEmpty (queue s channelQueue))) (λ e. untouched refl) (λ e. untouched refl)
+  filled-same s = untouched (filled-tasks s)
+
+  pub freed-same : (s : State) (r : ℕ) → Same y s (freedRequest s r)
+  unfolding freedRequest
+  freed-same s r = untouched refl
 
   first-same : (s : State) (level : ℕ) → Same y s (runsFirst s level)
   unfolding runsFirst
@@ -126,8 +138,8 @@ module _ {y : ℕ} where
   back-same s k d o = record { same = ap page (back-frame s k .tasks y (λ b. ⊎-elim d (λ c. omega (arith, c, o)) b)) }
 
   done-same : (k r : ℕ) (s : State) → Holds y s → Same y s (freedIfDone k r s)
-  unfolding freedIfDone freedRequest
-  done-same k r s h = either (eqb (requestAt s r .owner) k && eqb (requestAt s r .place) Done) (λ e. untouched refl) (λ e. untouched refl)
+  unfolding freedIfDone
+  done-same k r s h = either (eqb (requestAt s r .owner) k && eqb (requestAt s r .place) Done) (λ e. freed-same s r) (λ e. untouched refl)
 
   parent-same : (s : State) (p : ℕ) → Holds y s → Same y s (parentReady s p)
   unfolding parentReady

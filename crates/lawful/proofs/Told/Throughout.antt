@@ -6,21 +6,21 @@ use mathlib.Core.Logic.{_⊎_, ⊎-elim}
 use mathlib.Core.List.{List}
 use Prim.Native.Nat.{ℕ, _≤_}
 use lib.ListN.{getD}
+use Rattle.words.specs.Rows.{firstOf}
 use Rattle.image.specs.declared.Directory.{Directory}
 use Rattle.image.specs.declared.Entry.{Entry}
 use Rattle.image.specs.Directory.{noEntry}
 use Rattle.tables.specs.declared.Task.{Task}
 use Rattle.tables.specs.Blocks.{taskBlocks}
 use Rattle.tables.specs.State.{State, entryFor, read}
+use Rattle.tables.specs.declared.Tables.{Tables}
 use Rattle.calls.specs.Calls.{callOf}
 use Rattle.meaning.specs.Finish.{pending}
-use Rattle.lawful.specs.Tables.{LawfulTables}
-use Rattle.lawful.specs.UnderRead.{SameRun, During, begun, call}
 use Rattle.meaning.specs.Rules.{holdsUnit}
 use Rattle.meaning.specs.Refusals.{refusals}
 use Rattle.meaning.specs.Step.{accepted, stepOf}
-use Rattle.words.specs.Rows.{firstOf}
-use Rattle.tables.specs.declared.Tables.{Tables}
+use Rattle.lawful.specs.Tables.{LawfulTables}
+use Rattle.lawful.specs.UnderRead.{SameRun, During, begun, call}
 use Rattle.lawful.proofs.Tested.Pendings.{pending-some}
 use Rattle.lawful.proofs.Tested.Accepted.{accepts, rows-left}
 use Rattle.lawful.proofs.Each.Keeps.{keeps}

@@ -1,6 +1,6 @@
 -- Document 02, E4: a task that holds a run keeps it while it has a request queued or on the channel. FREEMAIN is refused by 25; END and the abort make such a task wait as ending; and a
 -- task that I/O done finishes has no such request left. The parts of calls are those of Pages.
-use mathlib.Core.Bool.{Bool, true, false, not, _&&_}
+use mathlib.Core.Bool.{false, not, _&&_}
 use mathlib.Core.Path.{_≡_, refl, sym, ap, _∙_}
 use mathlib.Core.Logic.{_≢_, _⊎_, ⊎-elim}
 use mathlib.Core.List.{List, [], _∷_}
@@ -9,11 +9,14 @@ use native.Mathlib.Omega.{arith}
 use lib.ListN.{getD}
 use lib.Dec.{eqb, ltb}
 use Rattle.words.proofs.Truth.{tested}
-use Rattle.words.specs.Words.{if_then_else_, isEmpty, adding, least, _among_}
+use Rattle.words.specs.Words.{adding, least, _among_}
+use Rattle.words.specs.Counting.{bit}
+use Rattle.words.proofs.Counting.{one-same, one-other, one-eq}
+use Rattle.words.proofs.Free.{least-in}
 use Rattle.image.specs.Directory.{noEntry}
 use Rattle.tables.specs.declared.Task.{Task}
 use Rattle.tables.specs.Blocks.{Free, Ready, InLink, InCheck, Ending, OnChannel, Done, noTask, newTask, awaitingRequest, withParent, taskBlocks}
-use Rattle.tables.specs.State.{State, eventQueue, timeQueue, channelQueue, withClock, withOn, withRunning, taskAt, requestAt, queue, levelOf}
+use Rattle.tables.specs.State.{State, eventQueue, timeQueue, withClock, withOn, withRunning, taskAt, requestAt, queue, levelOf}
 use Rattle.calls.specs.declared.Call.{Call}
 use Rattle.calls.specs.Calls.{needsTask}
 use Rattle.meaning.specs.Conditions.{holds}
@@ -25,9 +28,6 @@ use Rattle.meaning.proofs.Deeds.{Shown, every-deed}
 use Rattle.lawful.specs.Shape.{placeOf, Pending}
 use Rattle.lawful.specs.Resting.{Lawful, Aborting}
 use Rattle.lawful.specs.Accepts.{Accepts}
-use Rattle.words.specs.Counting.{bit}
-use Rattle.words.proofs.Counting.{one-same, one-other, one-eq}
-use Rattle.words.proofs.Free.{least-in}
 use Rattle.lawful.proofs.Blocks.Sums.{field-kept}
 use Rattle.lawful.proofs.Blocks.Shape.{held-place, rest-place}
 use Rattle.lawful.proofs.Blocks.Cored.{used-holder}
@@ -37,7 +37,7 @@ use Rattle.lawful.proofs.Tested.Pendings.{quiet-of, some-pending}
 use Rattle.lawful.proofs.Each.IoDone.{off, owner, done-first, transferred-keeps}
 use Rattle.lawful.proofs.Each.Abort.{aborted-none, aborted-step, upward-zero, abort-next, starts-abort}
 use Rattle.lawful.proofs.Told.Others.{freed-free}
-use Rattle.lawful.proofs.Told.Pages.{Same, Holds, Out, still-holds, then-same, either, untouched, block-same, other-same, made-same, each-same, woken-same, timely-same, waiting-same, stopped-same, filled-same, dispatched-same, back-same, finished-same, ended-same, ended-asks}
+use Rattle.lawful.proofs.Told.Pages.{Same, Holds, Out, still-holds, then-same, either, untouched, block-same, other-same, made-same, each-same, woken-same, timely-same, waiting-same, stopped-same, filled-tasks, filled-same, freed-same, dispatched-same, back-same, finished-same, ended-same, ended-asks}
 
 -- ---- The abort.
 aborted-same : {y i : ℕ} (n k : ℕ) (s : State) → 1 ≤ y → y ≤ taskBlocks → Aborting n k s → Holds y s → Pending (s .requests) y i → Same y s (aborted n k s)
@@ -68,18 +68,6 @@ aborted-same {y} {i} (suc n) k s lo hi a h p =
     step = then-same u (ended-same (unlinked s k) k out (still-holds u h) (λ z. some-pending (unlinked s k) k i (rw (← z) p)))
 
 -- ---- The calls, of a task y that holds a run and has a request i pending.
-freed-same : {y : ℕ} (s : State) (r : ℕ) → Same y s (freedRequest s r)
-unfolding freedRequest
-freed-same s r = untouched refl
-
-filled-tasks : (s : State) → channelFilled s .tasks ≡ s .tasks
-unfolding channelFilled
-filled-tasks s = go (eqb (s .channel) 0 && not (isEmpty (queue s channelQueue))) _ refl
-  where
-    go : (b : Bool) (x : State) → x .tasks ≡ s .tasks → (if b then x else s) .tasks ≡ s .tasks
-    go true x e = e
-    go false x e = refl
-
 finished-free : (s : State) (k : ℕ) → taskAt (channelFilled (finished s k)) k ≡ noTask
 unfolding finished
 finished-free s k = ap (λ (l : List Task). getD l k noTask) (filled-tasks (finished s k)) ∙ freed-free _ k
