@@ -1,11 +1,11 @@
-// Blocks: task and request blocks in queues, and taken and freed. A block joins a queue and leaves it, a free block is taken, a used one is freed; and whether a
-// task has requests pending.
+// Blocks: task and request blocks in queues, taken and freed. A block joins a queue and leaves it, a free block is taken, a used one is freed; and whether a
+// task has requests queued or on the channel.
 //
 // It answers for "A freed block is used again: always the lowest-numbered free one" of document 01, and for what each later part asks of a queue. It knows
 // the tables, and nothing of what a task waits for.
 //
-// Each function takes the tables and gives them back changed, or what it was asked. It asks for no more than makes it safe, and ensures that the tables then show the
-// meaning of what it does.
+// Each function takes the tables and gives them back changed, or answers what it is asked of them. It asks for no more than makes it safe, and ensures that the
+// tables then show the meaning of what it does.
 pub mod free;
 pub mod pending;
 

@@ -1,6 +1,7 @@
 // Refusals: the rows of the table that look at a call and the tables, and the first of them that applies.
 //
-// It answers for the table of document 01's 'Calls' from 24 on, with the rows of document 02 in their places. It reads the tables and never changes them; what an accepted call does is not known here.
+// It answers for the table of document 01's 'Calls' from 24 on, with the rows of document 02 in their places. It reads the tables and never changes them; what
+// an accepted call does is not known here.
 mod tests;
 
 use calls::Call;
