@@ -2,7 +2,7 @@
 -- stays.
 use mathlib.Core.Bool.{Bool, true, false}
 use mathlib.Core.List.{List, [], _∷_, _++_}
-use mathlib.Core.Path.{_≡_, refl, ap, _∙_}
+use mathlib.Core.Path.{_≡_, refl, ap, ap₂, _∙_}
 use Prim.Native.Nat.{ℕ}
 use native.Mathlib.Omega.{arith}
 use lib.Dec.{ltb}
@@ -38,6 +38,10 @@ gathers (r ∷ l) h = one-more (r .number) (r .applies) l (and-left (ltb 0 (r .n
 -- what the code gathers from the rows is the first of them
 pub gathered-first : {r : ℕ} (l : List Row) → noZero l ≡ true → r ≡ gathered 0 l → r ≡ firstOf l
 gathered-first l h e = e ∙ gathers l h
+
+-- the last row is gathered last: what was gathered before it, and its test
+pub last-row : (n : ℕ) {a b r : ℕ} {p q : Bool} → r ≡ next a n p → a ≡ b → p ≡ q → r ≡ next b n q
+last-row n e d f = e ∙ ap₂ (λ (x : ℕ) (y : Bool). next x n y) d f
 
 -- ---- The table in its parts.
 part : (n : ℕ) (t : Bool) (l m : List Row) → ltb 0 n ≡ true → orElse (firstOf l) (firstOf m) ≡ firstOf (l ++ m) → orElse (firstOf (n when t ∷ l)) (firstOf m) ≡ firstOf (n when t ∷ (l ++ m))
