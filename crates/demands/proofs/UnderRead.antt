@@ -2,11 +2,13 @@
 -- channel." Of any tables that keep the rules, whether they are reached from an image or not, and any calls, refused ones included.
 use mathlib.Core.Bool.{true}
 use mathlib.Core.Path.{_≡_}
+use mathlib.Core.Logic.{_≢_}
 use mathlib.Core.List.{List}
 use Prim.Native.Nat.{ℕ, _≤_}
 use Rattle.tables.specs.declared.Tables.{Tables}
 use Rattle.tables.specs.Blocks.{HoldsRun, taskBlocks}
 use Rattle.tables.specs.State.{taskAt, read}
+use Rattle.calls.specs.Calls.{IO-DONE, callOf}
 use Rattle.meaning.specs.Finish.{pending}
 use Rattle.meaning.specs.Rules.{holdsUnit, rulesHold}
 use Rattle.meaning.specs.Step.{stepOf}
@@ -21,7 +23,11 @@ module _ (t : Tables) (typed : Typed t) (rules : rulesHold t ≡ true) (k : ℕ)
 
   -- ---- A task that holds a run and has a request queued or on the channel, and has one after the call too, holds the same run after it
   pub run-stays : (bytes : List ℕ) → pending (read t) k ≡ true → pending (read (stepOf t bytes .tables)) k ≡ true → SameRun (read t) (read (stepOf t bytes .tables)) k
-  run-stays bytes = step-run t bytes lawful k holds
+  run-stays bytes before after = step-run t bytes lawful k holds before (λ z. after)
+
+  -- of any call but I/O done it does, whatever it has after it: no call frees its core by taking the request away
+  pub run-stays-until-done : (bytes : List ℕ) → callOf bytes .code ≢ IO-DONE → pending (read t) k ≡ true → SameRun (read t) (read (stepOf t bytes .tables)) k
+  run-stays-until-done bytes other before = step-run t bytes lawful k holds before (λ z. absurd (other z))
 
   -- and over any calls, as long as it has one
   pub run-stays-throughout : {u : Tables} → During k t u → SameRun (read t) (read u) k

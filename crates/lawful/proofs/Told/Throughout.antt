@@ -14,7 +14,7 @@ use Rattle.tables.specs.declared.Task.{Task}
 use Rattle.tables.specs.Blocks.{taskBlocks}
 use Rattle.tables.specs.State.{State, entryFor, read}
 use Rattle.tables.specs.declared.Tables.{Tables}
-use Rattle.calls.specs.Calls.{callOf}
+use Rattle.calls.specs.Calls.{IO-DONE, callOf}
 use Rattle.meaning.specs.Finish.{pending}
 use Rattle.meaning.specs.Rules.{holdsUnit}
 use Rattle.meaning.specs.Refusals.{refusals}
@@ -32,15 +32,15 @@ use Rattle.lawful.proofs.Told.Pages.{Same, Holds, still-holds, untouche
 use Rattle.lawful.proofs.Told.UnderRead.{owner-block, call-same}
 
 -- ---- One call.
-step-same : (t : Tables) (bytes : List ℕ) → LawfulTables t → (y : ℕ) → Holds y (read t) → pending (read t) y ≡ true → pending (read (stepOf t bytes .tables)) y ≡ true
-    → Same y (read t) (read (stepOf t bytes .tables))
+step-same : (t : Tables) (bytes : List ℕ) → LawfulTables t → (y : ℕ) → Holds y (read t) → pending (read t) y ≡ true
+    → (callOf bytes .code ≡ IO-DONE → pending (read (stepOf t bytes .tables)) y ≡ true) → Same y (read t) (read (stepOf t bytes .tables))
 unfolding accepted
 step-same t bytes g y h p =
     let i = pending-some (read t) y p in
     ⊎-elim (λ z q. rw (z .1, refused-leaves t (firstOf (refusals t bytes))) (untouched refl))
     (λ z.
     let a = accepts (read t) (callOf bytes) (rows-left t bytes (z .0) .rows) (g .state) in
-    rw (z .1, read-tabled (keeps (g .state) a)) (λ q. call-same (g .state) a h (i .1) (pending-some _ y q)))
+    rw (z .1, read-tabled (keeps (g .state) a)) (λ q. call-same (g .state) a h (i .1) (λ e. pending-some _ y (q e))))
     (step-ends t bytes)
 
 -- what is kept of a block makes the same run, since the directory stays
@@ -54,8 +54,8 @@ same-run {s} {u} {y} d h e =
       units = ap (λ (x : Entry). x .units) m;
     }
 
-pub step-run : (t : Tables) (bytes : List ℕ) → LawfulTables t → (y : ℕ) → Holds y (read t) → pending (read t) y ≡ true → pending (read (stepOf t bytes .tables)) y ≡ true
-    → SameRun (read t) (read (stepOf t bytes .tables)) y
+pub step-run : (t : Tables) (bytes : List ℕ) → LawfulTables t → (y : ℕ) → Holds y (read t) → pending (read t) y ≡ true
+    → (callOf bytes .code ≡ IO-DONE → pending (read (stepOf t bytes .tables)) y ≡ true) → SameRun (read t) (read (stepOf t bytes .tables)) y
 step-run t bytes g y h p q = same-run (step-directory t bytes) h (step-same t bytes g y h p q)
 
 -- ---- Over any calls.
@@ -75,7 +75,7 @@ module _ {t : Tables} {k : ℕ} (g : LawfulTables t) (h : Holds k (read t)) wher
   during-run (begun p) = record { holds = h; level = refl; start = refl; units = refl }
   during-run (call {u} bytes d p) =
       let r = during-run d in
-      then-run r (step-run u bytes (during-lawful d) k (r .holds) (asks-now d) p)
+      then-run r (step-run u bytes (during-lawful d) k (r .holds) (asks-now d) (λ z. p))
 
   -- its units are the same, and so no other task has one of them
   units-same : {u : Tables} → During k t u → (level unit : ℕ) → holdsUnit (read u) level unit k ≡ holdsUnit (read t) level unit k

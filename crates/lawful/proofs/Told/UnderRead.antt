@@ -18,7 +18,7 @@ use Rattle.tables.specs.declared.Task.{Task}
 use Rattle.tables.specs.Blocks.{Free, Ready, InLink, InCheck, Ending, OnChannel, Done, noTask, newTask, awaitingRequest, withParent, taskBlocks}
 use Rattle.tables.specs.State.{State, eventQueue, timeQueue, withClock, withOn, withRunning, taskAt, requestAt, queue, levelOf}
 use Rattle.calls.specs.declared.Call.{Call}
-use Rattle.calls.specs.Calls.{needsTask}
+use Rattle.calls.specs.Calls.{IO-DONE, needsTask}
 use Rattle.meaning.specs.Conditions.{holds}
 use Rattle.meaning.specs.Ready.{bestReady, runsFirst, dispatched}
 use Rattle.meaning.specs.Finish.{freedRequest, pending, finished, ended, unlinked, aborted}
@@ -205,10 +205,10 @@ dispatched-asks s =
     (λ z. rw (kept s (z .1)) refl) (tested (s .running) 0)
 
 module _ {s : State} {c : Call} (g : Lawful s) (a : Accepts s c) {y i : ℕ} (h : Holds y s) (p : Pending (s .requests) y i) where
-  effect-same : ((j : ℕ) × Pending (effect s c .state .requests) y j) → Same y s (effect s c .state)
+  effect-same : (c .code ≡ IO-DONE → (j : ℕ) × Pending (effect s c .state .requests) y j) → Same y s (effect s c .state)
   unfolding Shown deeds needsTask _among_ testEvent
   effect-same =
-      every-deed s c (λ (e : Effect). ((j : ℕ) × Pending (e .state .requests) y j) → Same y s (e .state)) (λ k q. untouched refl)
+      every-deed s c (λ (e : Effect). (c .code ≡ IO-DONE → (j : ℕ) × Pending (e .state .requests) y j) → Same y s (e .state)) (λ k q. untouched refl)
       (λ z q. freemain-same g h p c (a .running (rw z)) (a .quiet z))
       (λ z q. link-same g h p c (a .running (rw z)) (a .block (rw z)))
       (λ z q. end-same g h p c (a .running (rw z)))
@@ -221,10 +221,10 @@ module _ {s : State} {c : Call} (g : Lawful s) (a : Accepts s c) {y i : ℕ} (h 
       (λ z q. transfer-same g h p c)
       (λ z q. check-same g h p c)
       (λ z q. timer-same g h p c)
-      (λ z q. io-same g h p c (a .channel z) (q .0) (q .1))
+      (λ z q. let w = q z in io-same g h p c (a .channel z) (w .0) (w .1))
       (λ z q. abort-same g h p c (a .running (rw z)))
       (λ z q. start-same g h p c (a .block (rw z)))
 
-  -- the law: an accepted call, whole, after which the task has a request pending
-  pub call-same : ((j : ℕ) × Pending (dispatched (effect s c .state) .requests) y j) → Same y s (dispatched (effect s c .state))
-  call-same q = then-same (effect-same (rw (dispatched-asks (effect s c .state)) at q)) (dispatched-same (effect s c .state))
+  -- the law: an accepted call, whole; one that is I/O done, if the task has a request pending after it
+  pub call-same : (c .code ≡ IO-DONE → (j : ℕ) × Pending (dispatched (effect s c .state) .requests) y j) → Same y s (dispatched (effect s c .state))
+  call-same q = then-same (effect-same (λ z. rw (dispatched-asks (effect s c .state)) at (q z))) (dispatched-same (effect s c .state))
