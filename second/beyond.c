@@ -1,5 +1,6 @@
 /* Tests what no session can reach: the check's two values, writing, refusal 9,
-   and the clock's end. Prints what fails; exit status 1 if anything does. */
+   the clock's end, and what a short SIGNAL and a second load leave of the
+   signalled events. Prints what fails; exit status 1 if anything does. */
 #include "executive.h"
 
 #include <stdio.h>
@@ -151,6 +152,40 @@ static void clock_end(int *failed)
     expect(failed, answers(&executive, timer, 21, 0, 2), "timer again: 21");
 }
 
+/* Document 02, E1: 3 until an event is "signalled on or off since the load". A
+   short SIGNAL, behind which a session ends, isn't one; a second load forgets
+   all. 9 where an event that is on has not been signalled, or a signalled one
+   isn't defined. */
+static void signalled_events(int *failed)
+{
+    struct executive executive;
+    struct directory directory = good_directory();
+    uint8_t image[IMAGE_LENGTH];
+    uint8_t bytes[CALL_LENGTH];
+    struct call start = {OPERATOR_START, 0, 0, 0, 0, 0};
+    struct call signal = {SIGNAL, 0, 0, 1, 0, 0};
+    struct call test = {TEST_EVENT, 0, 0, 0, 0, 0};
+    image_put(&directory, image);
+    call_put(&signal, bytes);
+    executive_load(&executive, image, IMAGE_LENGTH);
+    expect(failed, answers(&executive, start, 0, 1, 1), "start");
+    expect(failed,
+           executive_step(&executive, bytes, CALL_LENGTH - 1).refusal == 10,
+           "a short SIGNAL: 10");
+    expect(failed, answers(&executive, test, 0, 3, 1), "not signalled by it: 3");
+    executive.on = 1;
+    expect(failed, answers(&executive, test, 9, 0, 0), "on, not signalled: 9");
+    executive.signalled = 1;
+    expect(failed, answers(&executive, test, 0, 2, 1), "on and signalled: 2");
+    executive.on = 0;
+    expect(failed, answers(&executive, test, 0, 1, 1), "off and signalled: 1");
+    executive.signalled = 3;
+    expect(failed, answers(&executive, test, 9, 0, 0), "1 isn't defined: 9");
+    executive_load(&executive, image, IMAGE_LENGTH);
+    expect(failed, answers(&executive, start, 0, 1, 1), "start again");
+    expect(failed, answers(&executive, test, 0, 3, 1), "loaded again: 3");
+}
+
 /* All of them. */
 int main(void)
 {
@@ -160,6 +195,7 @@ int main(void)
     write_and_load(&failed);
     refusal_9(&failed);
     clock_end(&failed);
+    signalled_events(&failed);
     printf("beyond: %d failed\n", failed);
     return failed != 0;
 }

@@ -1,6 +1,7 @@
 /* What each call does. Each function answers the result of the accepted
    call. "Accepted results: 5, 7, 35 the task block; 13, 14 the request block;
-   10 gives 1 for off, 2 for on; all others 1." */
+   10 gives 1 for off, 2 for on; all others 1." Document 02's E1 adds 3 to the
+   answers of 10. */
 #include "executive.h"
 
 /* "FREEMAIN frees the caller's run, if any; it isn't granted again." */
@@ -57,10 +58,12 @@ static int act_wait(struct executive *executive, const struct call *call)
     return 1;
 }
 
-/* "SIGNAL on, then the event queue is walked [...]. Off wakes nobody." */
+/* "SIGNAL on, then the event queue is walked [...]. Off wakes nobody." Either
+   way the event is "signalled on or off" from now on (document 02, E1). */
 static int act_signal(struct executive *executive, const struct call *call)
 {
     uint64_t event = (uint64_t)1 << call->number;
+    executive->signalled |= event;
     if (call->value == 1) {
         executive->on |= event;
         wake_event_waiters(executive);
@@ -70,9 +73,13 @@ static int act_signal(struct executive *executive, const struct call *call)
     return 1;
 }
 
-/* "10 gives 1 for off, 2 for on" */
+/* "10 gives 1 for off, 2 for on". Document 02, E1: "TEST EVENT has to answer 3
+   for a defined event that hasn't been signalled on or off since the load." */
 static int act_test_event(struct executive *executive, const struct call *call)
 {
+    if (((executive->signalled >> call->number) & 1) == 0) {
+        return 3;
+    }
     return ((executive->on >> call->number) & 1) != 0 ? 2 : 1;
 }
 

@@ -91,6 +91,8 @@ static void try_refusal(const struct refusal_case *tried)
         differs("refusals", tried->name, "the library's answer is wrong");
     } else if (said.differs != NULL) {
         differs("refusals", tried->name, said.differs);
+    } else if (tried->result != 0 && said.line.result != tried->result) {
+        differs("refusals", tried->name, "the library's result is wrong");
     }
     seen = said.after;
     tables_edit(&seen, tried->seen, SEEN_MOST);

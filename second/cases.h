@@ -41,7 +41,8 @@ struct rule_case {
 extern const struct rule_case rule_cases[];
 extern const size_t rule_cases_count;
 
-/* One case of a row of the refusals, or of none of them. */
+/* One case of a row of the refusals, or of none of them; or of the answers of
+   TEST EVENT. */
 enum { SEEN_MOST = 4 };
 struct refusal_case {
     int refusal;
@@ -51,6 +52,7 @@ struct refusal_case {
     struct edit edits[EDITS_MOST]; /* of the tables, before the call */
     size_t length;                 /* so many bytes of the call */
     struct edit seen[SEEN_MOST];   /* what the fields are afterwards */
+    int result;                    /* 0 where it is not looked at */
 };
 extern const struct refusal_case refusal_cases[];
 extern const size_t refusal_cases_count;

@@ -67,6 +67,18 @@ static void check_dispatch(const struct executive *before,
     }
 }
 
+/* Document 02, E1: "signalled on or off since the load". An accepted SIGNAL adds
+   its event, and no call takes one away. */
+static void check_signalled(const struct executive *before,
+                            const struct executive *after, unsigned long number,
+                            const uint8_t *bytes)
+{
+    uint64_t added = bytes[0] == SIGNAL ? (uint64_t)1 << bytes[2] : 0;
+    if (after->signalled != (before->signalled | added)) {
+        broken(number, "SIGNAL adds its event to the signalled, nothing else");
+    }
+}
+
 /* Demand 3 and the table rules after a call, and "A refused call changes no
    table [...] and no accepted answer carries a zero result". */
 static void check_call(const struct executive *before,
@@ -90,6 +102,7 @@ static void check_call(const struct executive *before,
     if (answer->result == 0) {
         broken(number, "no accepted answer carries a zero result");
     }
+    check_signalled(before, after, number, bytes);
     check_dispatch(before, after, number, bytes, length);
 }
 

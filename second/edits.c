@@ -38,6 +38,7 @@ static const struct field numbers[] = {
     FIELD(khilzurgee_tables, directory.defined),
     FIELD(khilzurgee_tables, clock),
     FIELD(khilzurgee_tables, on),
+    FIELD(khilzurgee_tables, signalled),
     FIELD(khilzurgee_tables, running),
     FIELD(khilzurgee_tables, channel),
     FIELD(khilzurgee_tables, free_tasks),
@@ -244,14 +245,29 @@ static void move_run(struct executive *executive, struct random *random)
     }
 }
 
-/* One of the other things that a block says. */
+/* A set of one event: of one that is on, of a defined one, or of any. */
+static uint64_t some_event(const struct executive *executive,
+                           struct random *random)
+{
+    const uint64_t sets[] = {executive->on, executive->directory.events,
+                             UINT64_MAX};
+    uint64_t set = sets[random_below(random, 3)];
+    unsigned event = random_below(random, EVENTS);
+    while (set != 0 && ((set >> event) & 1) == 0) {
+        event = (event + 1) % EVENTS;
+    }
+    return UINT64_C(1) << event;
+}
+
+/* One of the other things that a block says; or an event goes on or off, or
+   becomes one that was signalled or that never was. */
 static void change_block(struct executive *executive, struct random *random)
 {
     unsigned block = 1 + random_below(random, TASKS);
     struct task *task = &executive->task[block];
     unsigned number = 1 + random_below(random, REQUESTS);
     unsigned event = random_below(random, EVENTS);
-    switch (random_below(random, 8)) {
+    switch (random_below(random, 9)) {
     case 0:
         task->parent = (uint8_t)random_below(random, TASKS + 1);
         break;
@@ -273,8 +289,11 @@ static void change_block(struct executive *executive, struct random *random)
     case 6:
         executive->request[number].owner = (uint8_t)random_below(random, TASKS + 1);
         break;
+    case 7:
+        executive->on ^= some_event(executive, random);
+        break;
     default:
-        executive->on ^= UINT64_C(1) << event;
+        executive->signalled ^= some_event(executive, random);
         break;
     }
 }

@@ -3,9 +3,10 @@
 
 #include <string.h>
 
-/* "A loaded state has no tasks, all events off, clock 0." A refused load
-   leaves "all-zero tables". The answer is the desk's line for the load:
-   "(refusal, M or 0, 0)". */
+/* "A loaded state has no tasks, all events off, clock 0." No event has been
+   signalled "since the load" (document 02, E1). A refused load leaves
+   "all-zero tables". The answer is the desk's line for the load: "(refusal, M
+   or 0, 0)". */
 struct answer executive_load(struct executive *executive,
                              const uint8_t *bytes, size_t length)
 {

@@ -69,10 +69,12 @@ struct request {
 };
 
 /* All tables. Blocks count from 1 and levels from 1; index 0 stays zero.
-   `holder` names for each unit of a level the task that holds it. */
+   `signalled` are the events "signalled on or off since the load" (document 02,
+   E1). `holder` names for each unit of a level the task that holds it. */
 struct executive {
     struct directory directory;
     uint64_t on;
+    uint64_t signalled;
     uint32_t clock;
     uint8_t running;
     uint8_t channel;

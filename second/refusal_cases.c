@@ -1,38 +1,68 @@
 /* Calls on either side of the line of each row of document 01's table of
-   refusals and of document 02's 25, and calls to which two rows apply. The
-   numbers were found by hand, from the papers. */
+   refusals and of document 02's 25, and calls to which two rows apply; the
+   answers of TEST EVENT, and what signals an event. The numbers were found by
+   hand, from the papers. */
 #include "cases.h"
 
 /* A row: the refusal, 0 if accepted; the tables; the call's code, kind, number,
    value, amount and set. */
 #define CALL(refusal, name, on, ...) \
-    {refusal, name, on, {__VA_ARGS__}, {NOTHING}, CALL_LENGTH, {NOTHING}}
+    {refusal, name, on, {__VA_ARGS__}, {NOTHING}, CALL_LENGTH, {NOTHING}, 0}
 
 /* The same at the clock's end; with so many bytes; on tables that break a rule,
    with so many bytes. */
 #define AT_THE_END(refusal, name, ...)                                  \
     {refusal, name, USUAL, {__VA_ARGS__}, {SET(clock, CLOCK_END)},      \
-     CALL_LENGTH, {NOTHING}}
+     CALL_LENGTH, {NOTHING}, 0}
 #define CUT(refusal, name, length, ...) \
-    {refusal, name, USUAL, {__VA_ARGS__}, {NOTHING}, length, {NOTHING}}
-#define BROKEN(refusal, name, length, ...) \
-    {refusal, name, USUAL, {__VA_ARGS__}, {SET(running, 25)}, length, {NOTHING}}
+    {refusal, name, USUAL, {__VA_ARGS__}, {NOTHING}, length, {NOTHING}, 0}
+#define BROKEN(refusal, name, length, ...)                              \
+    {refusal, name, USUAL, {__VA_ARGS__}, {SET(running, 25)}, length,   \
+     {NOTHING}, 0}
 
 /* An accepted call, and what it leaves in a new block. */
 #define NEW_TASK(name, module, how_many, which, when, ...)                 \
     {0, name, USUAL, {__VA_ARGS__}, {NOTHING}, CALL_LENGTH,                \
      {SET(tasks[3].program, module), SET(tasks[3].count, how_many),        \
-      SET(tasks[3].events, which), SET(tasks[3].time, when)}}
+      SET(tasks[3].events, which), SET(tasks[3].time, when)}, 0}
 #define NEW_REQUEST(name, from, what, so_many, ...)                        \
     {0, name, USUAL, {__VA_ARGS__}, {NOTHING}, CALL_LENGTH,                \
      {SET(requests[4].owner, 1), SET(requests[4].device, from),            \
-      SET(requests[4].command, what), SET(requests[4].bytes, so_many)}}
+      SET(requests[4].command, what), SET(requests[4].bytes, so_many)}, 0}
 
 /* FREEMAIN on the usual tables, edited, and what it leaves: the core of task 1,
    which runs, and its level's pool. */
 #define FREES(refusal, name, core_then, pool_then, ...)                    \
     {refusal, name, USUAL, {FREEMAIN, 0, 0, 0, 0, 0}, {__VA_ARGS__},       \
-     CALL_LENGTH, {SET(tasks[1].core, core_then), SET(pools[2], pool_then)}}
+     CALL_LENGTH, {SET(tasks[1].core, core_then), SET(pools[2], pool_then)}, 0}
+
+/* The events that are on, and those that have been signalled. */
+#define EVENTS_ARE(on_now, ever) SET(on, on_now), SET(signalled, ever)
+
+/* TEST EVENT on the usual tables with these events, and its result; it changes
+   none of them. */
+#define TESTS(answer, name, event, on_now, ever)                           \
+    {0, name, USUAL, {TEST_EVENT, 0, event, 0, 0, 0},                      \
+     {EVENTS_ARE(on_now, ever)}, CALL_LENGTH, {EVENTS_ARE(on_now, ever)},  \
+     answer}
+
+/* SIGNAL on the usual tables with these events, and with which it leaves them.
+   So many bytes of a SIGNAL on, refused on other tables, which stay as they
+   were. */
+#define SIGNALS(refusal, name, event, to, on_now, ever, on_then, ever_then) \
+    {refusal, name, USUAL, {SIGNAL, 0, event, to, 0, 0},                   \
+     {EVENTS_ARE(on_now, ever)}, CALL_LENGTH,                              \
+     {EVENTS_ARE(on_then, ever_then)}, 0}
+#define SIGNALS_NOT(refusal, name, from, length, event, on_now, ever)      \
+    {refusal, name, from, {SIGNAL, 0, event, 1, 0, 0},                     \
+     {EVENTS_ARE(on_now, ever)}, length, {EVENTS_ARE(on_now, ever)}, 0}
+
+/* WAIT for so many of the events 0 and 1 on the usual tables with these events,
+   and who runs then: task 1, which goes on, or 2. It signals none. */
+#define WAITS(runs, name, how_many, on_now, ever)                          \
+    {0, name, USUAL, {WAIT, ON_EVENTS, 0, how_many, 0, EVENTS_0_1},        \
+     {EVENTS_ARE(on_now, ever)}, CALL_LENGTH,                              \
+     {EVENTS_ARE(on_now, ever), SET(running, runs)}, 0}
 
 /* Task 1 holds 4 units; it has given them back. */
 #define HOLDS_CORE                                                         \
@@ -56,6 +86,8 @@
 
 #define EVENTS_0_1 0x3
 #define EVENTS_0_2 0x5
+#define EVENTS_0_63 UINT64_C(0x8000000000000001)
+#define EVENTS_1_63 UINT64_C(0x8000000000000002)
 #define EVENTS_0_1_63 UINT64_C(0x8000000000000003)
 #define EVENT_63 UINT64_C(0x8000000000000000)
 
@@ -133,6 +165,51 @@ const struct refusal_case refusal_cases[] = {
     CALL(19, "TEST EVENT 64", USUAL, TEST_EVENT, 0, 64, 0, 0, 0),
     CALL(0, "SIGNAL 63 off", USUAL, SIGNAL, 0, 63, 0, 0, 0),
     CALL(19, "SIGNAL 64 off", USUAL, SIGNAL, 0, 64, 0, 0, 0),
+
+    /* Document 02's E1: 3 "for a defined event that hasn't been signalled on or
+       off since the load"; 19 comes first, see above */
+    TESTS(3, "TEST EVENT 0, never signalled", 0, 0, 0),
+    TESTS(1, "TEST EVENT 0, off", 0, 0, 0x1),
+    TESTS(2, "TEST EVENT 0, on", 0, 0x1, 0x1),
+    TESTS(3, "TEST EVENT 0, the others off", 0, 0, EVENTS_1_63),
+    TESTS(3, "TEST EVENT 0, the others on", 0, EVENTS_1_63, EVENTS_1_63),
+    TESTS(1, "TEST EVENT 0, off, the others on", 0, EVENTS_1_63, EVENTS_0_1_63),
+    TESTS(2, "TEST EVENT 0, on, the others off", 0, 0x1, EVENTS_0_1_63),
+    TESTS(3, "TEST EVENT 63, the others on", 63, EVENTS_0_1, EVENTS_0_1),
+    TESTS(1, "TEST EVENT 63, off", 63, 0, EVENT_63),
+    TESTS(2, "TEST EVENT 63, on", 63, EVENT_63, EVENT_63),
+
+    /* SIGNAL, on or off, of an event that was never signalled, off or on */
+    SIGNALS(0, "SIGNAL 0 on, never signalled", 0, 1, 0, 0, 0x1, 0x1),
+    SIGNALS(0, "SIGNAL 0 on, off", 0, 1, 0, 0x1, 0x1, 0x1),
+    SIGNALS(0, "SIGNAL 0 on, on", 0, 1, 0x1, 0x1, 0x1, 0x1),
+    SIGNALS(0, "SIGNAL 0 off, never signalled", 0, 0, 0, 0, 0, 0x1),
+    SIGNALS(0, "SIGNAL 0 off, off", 0, 0, 0, 0x1, 0, 0x1),
+    SIGNALS(0, "SIGNAL 0 off, on", 0, 0, 0x1, 0x1, 0, 0x1),
+    SIGNALS(0, "SIGNAL 63 on, 0 off", 63, 1, 0, 0x1, EVENT_63, EVENTS_0_63),
+    SIGNALS(0, "SIGNAL 1 off, 63 on", 1, 0, EVENT_63, EVENT_63,
+            EVENT_63, EVENTS_1_63),
+
+    /* A refused one signals nothing. 64 and 66 end in the bits of 0 and 2. */
+    SIGNALS(23, "SIGNAL 0 by 2, never signalled", 0, 2, 0, 0, 0, 0),
+    SIGNALS(23, "SIGNAL 0 by 255, 63 on", 0, 255, EVENT_63, EVENT_63,
+            EVENT_63, EVENT_63),
+    SIGNALS(23, "SIGNAL 0 by 2, on", 0, 2, 0x1, 0x1, 0x1, 0x1),
+    SIGNALS_NOT(19, "SIGNAL 2 on, not defined", USUAL, CALL_LENGTH, 2, 0, 0x1),
+    SIGNALS_NOT(19, "SIGNAL 64 on", USUAL, CALL_LENGTH, 64, 0, 0),
+    SIGNALS_NOT(19, "SIGNAL 66 on", USUAL, CALL_LENGTH, 66, 0, 0),
+    SIGNALS_NOT(11, "no task: SIGNAL 0 on", IDLE, CALL_LENGTH, 0, 0, 0),
+    SIGNALS_NOT(10, "15 bytes of SIGNAL 0 on", USUAL, 15, 0, 0, 0),
+
+    /* Conditions count the events that are on, and those alone. */
+    WAITS(2, "WAIT for 1, never signalled", 1, 0, 0),
+    WAITS(2, "WAIT for 1, 0 off", 1, 0, 0x1),
+    WAITS(2, "WAIT for 1, both off", 1, 0, EVENTS_0_1),
+    WAITS(1, "WAIT for 1, 0 on, 1 never signalled", 1, 0x1, 0x1),
+    WAITS(1, "WAIT for 1, 0 on, 1 off", 1, 0x1, EVENTS_0_1),
+    WAITS(2, "WAIT for 2, 0 on, 1 never signalled", 2, 0x1, 0x1),
+    WAITS(2, "WAIT for 2, 0 on, 1 off", 2, 0x1, EVENTS_0_1),
+    WAITS(1, "WAIT for 2, both on", 2, EVENTS_0_1, EVENTS_0_1),
 
     /* 22 */
     CALL(0, "READ device 249", USUAL, READ, 0, 249, 0, 1, 0),

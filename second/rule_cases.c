@@ -1,12 +1,17 @@
 /* The table rules, each broken in three ways or more, and kept by neighbours of
-   what breaks it. What a case has to be was found by hand, from document 01; it
-   breaks that rule alone, save where another is named as found. */
+   what breaks it. What a case has to be was found by hand, from the papers; it
+   breaks that rule alone, save where another is named as found. An event that is
+   on and not defined always breaks one of document 02's two rules on signalled
+   events, too, which stand behind that one. */
 #include "cases.h"
 
 /* The rules, by the words that rules.c and tables.c have for them. */
 static const char directory_passes[] = "the directory passes 4 to 7";
 static const char fields_in_range[] = "every field in range";
 static const char events_on_defined[] = "events on are defined";
+static const char events_on_signalled[] =
+    "an event that is on has been signalled";
+static const char events_signalled_defined[] = "a signalled event is defined";
 static const char pointers_right[] =
     "a forward and a back pointer for the queue they are on";
 static const char tasks_in_one_place[] = "each task block in exactly one place";
@@ -52,6 +57,11 @@ static const char no_queue_behind_empty[] = "no queue behind an empty channel";
     SET(threads.first[queue], x), SET(threads.last[queue], y),    \
     SET(threads.fwd[x], y), SET(threads.back[x], 0),              \
     SET(threads.fwd[y], 0), SET(threads.back[y], x)
+
+/* The events that are on, and those that have been signalled; these are on, and
+   no others have been signalled. */
+#define EVENTS_ARE(on_now, ever) SET(on, on_now), SET(signalled, ever)
+#define ON(set) EVENTS_ARE(set, set)
 
 /* Other parents of the tasks 9, 13 and 14. In the sample 9 is in LINK for 13,
    and 13 in LINK for 14, which runs. */
@@ -140,16 +150,60 @@ const struct rule_case rule_cases[] = {
     KEEPS(fields_in_range, "a run ends with unit 63", SAMPLE,
           RUN(12, 60, 3, UINT64_C(0xf00000000000000f))),
 
-    /* The events 0 to 7 are defined, and 1 is on; 1, 2 and 3 are waited for. */
+    /* The events 0 to 7 are defined, 1 is on, and 1 and 2 have been signalled; 1,
+       2 and 3 are waited for. */
     BREAKS(events_on_defined, "8 is on", SAMPLE, SET(on, 258)),
-    BREAKS(events_on_defined, "63 is on", SAMPLE, SET(on, UINT64_C(0x8000000000000002))),
+    BREAKS(events_on_defined, "8 is on, and has been signalled", SAMPLE, ON(258)),
+    BREAKS(events_on_defined, "63 is on", SAMPLE, ON(UINT64_C(0x8000000000000002))),
     BREAKS(events_on_defined, "4 is on, and no more defined", SAMPLE,
-           SET(on, 18), SET(directory.defined, 239)),
+           ON(18), SET(directory.defined, 239)),
     BREAKS(events_on_defined, "8 is on, just loaded", LOADED, SET(on, 256)),
     KEEPS(events_on_defined, "none is on", SAMPLE, SET(on, 0)),
-    KEEPS(events_on_defined, "1 and 4 are on", SAMPLE, SET(on, 18)),
-    KEEPS(events_on_defined, "all but 2 and 3 are on", SAMPLE, SET(on, 243)),
+    KEEPS(events_on_defined, "1 and 4 are on", SAMPLE, ON(18)),
+    KEEPS(events_on_defined, "all but 2 and 3 are on", SAMPLE, ON(243)),
     KEEPS(events_on_defined, "4 is no more defined", SAMPLE, SET(directory.defined, 239)),
+
+    BREAKS(events_on_signalled, "1 is on, and none has been", SAMPLE, SET(signalled, 0)),
+    BREAKS(events_on_signalled, "1 is on, and 2 alone has been", SAMPLE, SET(signalled, 4)),
+    BREAKS(events_on_signalled, "1 is on, and all others have been", SAMPLE,
+           SET(signalled, 253)),
+    BREAKS(events_on_signalled, "1 and 4 are on, and 1 and 2 have been", SAMPLE, SET(on, 18)),
+    BREAKS(events_on_signalled, "63 is on, is defined, and has not been", SAMPLE,
+           SET(directory.defined, UINT64_C(0x80000000000000ff)),
+           SET(on, UINT64_C(0x8000000000000002))),
+    BREAKS(events_on_signalled, "0 is on, just loaded", LOADED, SET(on, 1)),
+    BREAKS(events_on_signalled, "all are on, and all but 7 have been", LOADED,
+           EVENTS_ARE(255, 127)),
+    KEEPS(events_on_signalled, "1 is on and has been, 2 is off and has been", SAMPLE, NOTHING),
+    KEEPS(events_on_signalled, "1 is on, and alone has been", SAMPLE, ON(2)),
+    KEEPS(events_on_signalled, "none is on, and 1 and 2 have been", SAMPLE, SET(on, 0)),
+    KEEPS(events_on_signalled, "1 is on, and all have been", SAMPLE, SET(signalled, 255)),
+    KEEPS(events_on_signalled, "63 is on, is defined, and has been", SAMPLE,
+          SET(directory.defined, UINT64_C(0x80000000000000ff)),
+          ON(UINT64_C(0x8000000000000002))),
+    KEEPS(events_on_signalled, "0 is off and has been, just loaded", LOADED, SET(signalled, 1)),
+    KEEPS(events_on_signalled, "all are on, and all have been", LOADED, ON(255)),
+
+    BREAKS(events_signalled_defined, "8 has been", SAMPLE, SET(signalled, 262)),
+    BREAKS(events_signalled_defined, "63 has been", SAMPLE,
+           SET(signalled, UINT64_C(0x8000000000000006))),
+    BREAKS(events_signalled_defined, "4 has been, and is no more defined", SAMPLE,
+           SET(signalled, 22), SET(directory.defined, 239)),
+    BREAKS(events_signalled_defined, "all have been, defined or not", SAMPLE,
+           SET(signalled, UINT64_MAX)),
+    BREAKS(events_signalled_defined, "8 has been, just loaded", LOADED, SET(signalled, 256)),
+    BREAKS(events_signalled_defined, "0 has been, and none is defined", LOADED,
+           SET(signalled, 1), SET(directory.defined, 0)),
+    KEEPS(events_signalled_defined, "all defined ones have been", SAMPLE, SET(signalled, 255)),
+    KEEPS(events_signalled_defined, "4 has been, and is defined", SAMPLE, SET(signalled, 22)),
+    KEEPS(events_signalled_defined, "63 has been, and is defined", SAMPLE,
+          SET(signalled, UINT64_C(0x8000000000000006)),
+          SET(directory.defined, UINT64_C(0x80000000000000ff))),
+    KEEPS(events_signalled_defined, "none has been, and none is on", SAMPLE, ON(0)),
+    KEEPS(events_signalled_defined, "all defined ones have been, just loaded", LOADED,
+          SET(signalled, 255)),
+    KEEPS(events_signalled_defined, "none has been, and none is defined", LOADED,
+          SET(directory.defined, 0)),
 
     /* Rings: of one block; of two; the end of a queue goes back into it; a
        queue that is nothing but a ring. */
@@ -281,14 +335,16 @@ const struct rule_case rule_cases[] = {
     KEEPS(idle_if_nothing_ready, "one of level 3 runs", LOADED, STARTED(3, 3, 0xf)),
     KEEPS(idle_if_nothing_ready, "there is no task", LOADED, NOTHING),
 
-    /* Event 1 is on. Task 5 waits for two of the events 1 and 2, 6 for 3. */
+    /* Event 1 is on. Task 5 waits for two of the events 1 and 2, 6 for 3. Of
+       these 3 alone was never signalled. */
     BREAKS(no_condition_holds, "2 is on, too", SAMPLE, SET(on, 6)),
-    BREAKS(no_condition_holds, "3 is on, too", SAMPLE, SET(on, 10)),
+    BREAKS(no_condition_holds, "3 is on, too", SAMPLE, ON(10)),
     BREAKS(no_condition_holds, "one of 1 and 2 is enough", SAMPLE, SET(tasks[5].count, 1)),
     BREAKS(no_condition_holds, "one of 1 and 3 is awaited", SAMPLE, SET(tasks[6].events, 10)),
     KEEPS(no_condition_holds, "2 is on alone", SAMPLE, SET(on, 4)),
-    KEEPS(no_condition_holds, "all but 2 and 3 are on", SAMPLE, SET(on, 243)),
+    KEEPS(no_condition_holds, "all but 2 and 3 are on", SAMPLE, ON(243)),
     KEEPS(no_condition_holds, "one of 0 and 3 is awaited", SAMPLE, SET(tasks[6].events, 9)),
+    KEEPS(no_condition_holds, "3 is off, and has been signalled", SAMPLE, SET(signalled, 14)),
 
     /* Free in one run are 48 units of level 1, 4 of level 2 and 56 of level 3;
        first are the tasks 17 of module 4, 3 of module 2 and 18 of module 5. */

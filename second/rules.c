@@ -1,5 +1,6 @@
-/* "Table rules, exactly": each rule one function under its words, in the
-   document's order. Each answers 1 if the tables keep it. */
+/* "Table rules, exactly": each rule one function under its words, in document
+   01's order; what "the table rules gain" by document 02 stands behind the rule
+   that speaks of the same. Each answers 1 if the tables keep it. */
 #include "rules.h"
 
 /* "the directory passes 4 to 7" */
@@ -92,6 +93,18 @@ static int fields_in_range(const struct executive *executive)
 static int events_on_defined(const struct executive *executive)
 {
     return (executive->on & ~executive->directory.events) == 0;
+}
+
+/* Document 02, E1: "an event that is on has been signalled" */
+static int events_on_signalled(const struct executive *executive)
+{
+    return (executive->on & ~executive->signalled) == 0;
+}
+
+/* Document 02, E1: "and a signalled one is defined" */
+static int events_signalled_defined(const struct executive *executive)
+{
+    return (executive->signalled & ~executive->directory.events) == 0;
 }
 
 /* Every block on the queue says that it is in that place; count it. */
@@ -451,7 +464,7 @@ static int no_queue_behind_empty(const struct executive *executive)
     return executive->channel != 0 || executive->channel_queue.count == 0;
 }
 
-/* The rules, in the document's order. */
+/* The rules, in the order of the functions. */
 static const struct {
     const char *words;
     int (*kept)(const struct executive *executive);
@@ -459,6 +472,8 @@ static const struct {
     {"the directory passes 4 to 7", directory_passes},
     {"every field in range", fields_in_range},
     {"events on are defined", events_on_defined},
+    {"an event that is on has been signalled", events_on_signalled},
+    {"a signalled event is defined", events_signalled_defined},
     {"each task block in exactly one place", tasks_in_one_place},
     {"each request block in exactly one place", requests_in_one_place},
     {"a free block is zero", free_blocks_zero},

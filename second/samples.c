@@ -24,6 +24,7 @@ static const struct khilzurgee_tables sample = {
     .directory = EIGHT_MODULES,
     .clock = 2,
     .on = 0x2,
+    .signalled = 0x6,
     .running = 14,
     .channel = 3,
     .free_tasks = 0x1f80000,
@@ -85,7 +86,8 @@ static const struct call sample_calls[] = {
     {SCHEDULE, AT_ONCE, 1, 0, 0, 0},         /* 10 */
     {SCHEDULE, AT_ONCE, 1, 0, 0, 0},         /* 11 */
     {SCHEDULE, AT_ONCE, 3, 0, 0, 0},         /* 12 */
-    {SIGNAL, 0, 1, 1, 0, 0},
+    {SIGNAL, 0, 1, 1, 0, 0},  /* event 1 is on */
+    {SIGNAL, 0, 2, 0, 0, 0},  /* 2 is off; the others were never signalled */
     {END, 0, 0, 0, 0, 0},     /* task 1 waits as ending, 9 runs */
     {LINK, 0, 0, 0, 0, 0},    /* 13 is made, 10 runs */
     {READ, 0, 8, 0, 10, 0},   /* request 3 */

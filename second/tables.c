@@ -199,6 +199,7 @@ const char *tables_read(struct executive *executive,
 {
     memset(executive, 0, sizeof *executive);
     executive->on = tables->on;
+    executive->signalled = tables->signalled;
     executive->clock = tables->clock;
     executive->running = tables->running;
     executive->channel = tables->channel;
@@ -306,6 +307,7 @@ void tables_write(struct khilzurgee_tables *tables,
     memset(tables, 0, sizeof *tables);
     directory_write(&tables->directory, &executive->directory);
     tables->on = executive->on;
+    tables->signalled = executive->signalled;
     tables->clock = executive->clock;
     tables->running = executive->running;
     tables->channel = executive->channel;
