@@ -146,7 +146,7 @@ static void compare(struct run *run, size_t count)
         }
         run->refused += line->refusal != 0;
     }
-    if (tables.clock != second.clock || tables.on != second.on || tables.channel != second.channel) {
+    if (tables.clock != second.clock || tables.on != second.on || tables.signalled != second.signalled || tables.channel != second.channel) {
         fail("the two programs have different tables");
     }
 }

@@ -89,7 +89,7 @@ uint16_t khilzurgee_block_check(const uint8_t *block, size_t length);
    nothing is kept anywhere else. They are declared so that a station can look
    into them; only the two functions below should change them.
 
-   They are 1,128 bytes, and every byte is a field's: no pointer, and no byte
+   They are 1,136 bytes, and every byte is a field's: no pointer, and no byte
    between two fields or behind the last. So they can be copied, stored and
    compared as bytes: equal tables are equal bytes (memcmp). The fields have to
    be aligned to 8, as the compiler aligns every object of this type. Bytes
@@ -106,10 +106,10 @@ uint16_t khilzurgee_block_check(const uint8_t *block, size_t length);
    'pools' is not used, and is zero. */
 
 /* The form of stored tables. */
-#define KHILZURGEE_TABLES_VERSION 1
+#define KHILZURGEE_TABLES_VERSION 2
 
 enum {
-    KHILZURGEE_TABLES_LENGTH = 1128,
+    KHILZURGEE_TABLES_LENGTH = 1136,
     KHILZURGEE_CALL_LENGTH = 16,
     KHILZURGEE_MODULES = 32,
     KHILZURGEE_TASKS = 24,
@@ -166,7 +166,9 @@ struct khilzurgee_threads {
 
 struct khilzurgee_tables {
     struct khilzurgee_directory directory;
-    uint64_t on; /* the events that are on */
+    uint64_t on;        /* the events that are on; each was signalled */
+    uint64_t signalled; /* the events of which a SIGNAL, on or off, was accepted
+                           since the load; each is defined */
     uint64_t pools[KHILZURGEE_LEVELS + 1]; /* the granted units of each level */
     struct khilzurgee_task tasks[KHILZURGEE_TASKS + 1];
     uint32_t clock;
@@ -207,11 +209,27 @@ enum khilzurgee_refusal {
     KHILZURGEE_CLOCK_AT_END = 21      /* the clock is at its end */
 };
 
+/* What is known of a defined event: the result of an accepted TEST EVENT. An
+   undefined one is refused by KHILZURGEE_NO_EVENT. The station's document 01
+   has 1 and 2; 3 is document 02's.
+
+   An event that was never signalled is not off: nothing was said of it yet, so
+   there may be a fault or none. A refused SIGNAL says nothing either. Who waits
+   for it waits as for one that is off. */
+enum khilzurgee_event {
+    KHILZURGEE_EVENT_OFF = 1,            /* its last accepted SIGNAL was off */
+    KHILZURGEE_EVENT_ON = 2,             /* its last accepted SIGNAL was on */
+    KHILZURGEE_EVENT_NEVER_SIGNALLED = 3 /* no SIGNAL of it, on or off, was
+                                            accepted since the load */
+};
+
 /* The three numbers of an answer, as the desk prints them. */
 struct khilzurgee_line {
-    uint8_t refusal; /* 0 if accepted; of a call one of those above, of an
-                        image one of enum khilzurgee_answer */
-    uint8_t result;  /* 0 if refused */
+    uint8_t refusal; /* 0 if accepted; of a call one of enum
+                        khilzurgee_refusal, of an image one of enum
+                        khilzurgee_answer */
+    uint8_t result;  /* 0 if refused; of an accepted TEST EVENT one of enum
+                        khilzurgee_event */
     uint8_t running; /* the running task afterwards, 0 if idle */
 };
 
@@ -271,15 +289,16 @@ KHILZURGEE_LAST(khilzurgee_threads, last, 100);
 
 KHILZURGEE_FIRST(khilzurgee_tables, directory);
 KHILZURGEE_NEXT(khilzurgee_tables, directory, on, 272);
-KHILZURGEE_NEXT(khilzurgee_tables, on, pools, 280);
-KHILZURGEE_NEXT(khilzurgee_tables, pools, tasks, 312);
-KHILZURGEE_NEXT(khilzurgee_tables, tasks, clock, 912);
-KHILZURGEE_NEXT(khilzurgee_tables, clock, free_tasks, 916);
-KHILZURGEE_NEXT(khilzurgee_tables, free_tasks, free_requests, 920);
-KHILZURGEE_NEXT(khilzurgee_tables, free_requests, requests, 924);
-KHILZURGEE_NEXT(khilzurgee_tables, requests, running, 1026);
-KHILZURGEE_NEXT(khilzurgee_tables, running, channel, 1027);
-KHILZURGEE_NEXT(khilzurgee_tables, channel, threads, 1028);
+KHILZURGEE_NEXT(khilzurgee_tables, on, signalled, 280);
+KHILZURGEE_NEXT(khilzurgee_tables, signalled, pools, 288);
+KHILZURGEE_NEXT(khilzurgee_tables, pools, tasks, 320);
+KHILZURGEE_NEXT(khilzurgee_tables, tasks, clock, 920);
+KHILZURGEE_NEXT(khilzurgee_tables, clock, free_tasks, 924);
+KHILZURGEE_NEXT(khilzurgee_tables, free_tasks, free_requests, 928);
+KHILZURGEE_NEXT(khilzurgee_tables, free_requests, requests, 932);
+KHILZURGEE_NEXT(khilzurgee_tables, requests, running, 1034);
+KHILZURGEE_NEXT(khilzurgee_tables, running, channel, 1035);
+KHILZURGEE_NEXT(khilzurgee_tables, channel, threads, 1036);
 KHILZURGEE_LAST(khilzurgee_tables, threads, KHILZURGEE_TABLES_LENGTH);
 
 KHILZURGEE_FIRST(khilzurgee_line, refusal);
@@ -296,9 +315,9 @@ KHILZURGEE_LAST(khilzurgee_line, running, 3);
 /* Loads an image into the caller's tables, whatever they held before, and
    answers refusal, M or 0, 0. The refusal is the number that the image check
    answers. Where it is 0 the tables are the loaded ones: the image's directory,
-   no tasks, all events off, clock 0. Where it is not they are all zero, to the
-   last byte, and every call on them is refused by 9. Either way no byte of what
-   they held is left.
+   no tasks, no event on and none signalled, clock 0. Where it is not they are
+   all zero, to the last byte, and every call on them is refused by 9. Either
+   way no byte of what they held is left.
 
    tables   where the tables lie; what they hold does not matter. Not NULL, and
             aligned to 8.

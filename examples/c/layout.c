@@ -56,6 +56,7 @@ enum {
     LINK = 5,
     SCHEDULE = 7,
     SIGNAL = 9,
+    TEST_EVENT = 10,
     READ = 13,
     WRITE = 14,
     CHECK = 15,
@@ -74,21 +75,34 @@ static void after_load(const struct khilzurgee_tables *t)
     IS(t->directory.entries[0].point, 0x12345678u);
     IS(t->directory.entries[1].level, 3);
     IS(t->directory.entries[1].point, 7);
+    IS(t->on, 0);
+    IS(t->signalled, 0);
     IS(t->free_tasks, 0x1fffffeu);
     IS(t->free_requests, 0x1fffeu);
     IS(t->clock, 0);
     IS(t->running, 0);
 }
 
-/* Task 1 starts and links to task 2, which schedules 3 on events, 4 by time, 5
-   with core beside its own and 6, for which there is none; it reads, writes and
-   waits in CHECK for the write, and 5 runs. */
+/* Of an event, by TEST EVENT. */
+static uint8_t known(struct khilzurgee_tables *t, uint8_t event)
+{
+    return call(t, TEST_EVENT, 0, event, 0, 0, 0).result;
+}
+
+/* Task 1 starts and links to task 2, which signals 63 on and 0 off, and
+   schedules 3 on events, 4 by time, 5 with core beside its own and 6, for which
+   there is none; it reads, writes and waits in CHECK for the write, and 5
+   runs. */
 static void after_calls(struct khilzurgee_tables *t)
 {
     call(t, TIMER, 0, 0, 0, 0, 0);
     call(t, START, 0, 1, 0, 0, 0);
     is("the child's block", call(t, LINK, 0, 0, 0, 0, 0).result, 2);
     call(t, SIGNAL, 0, 63, 1, 0, 0);
+    call(t, SIGNAL, 0, 0, 0, 0, 0);
+    is("an event that is off", known(t, 0), KHILZURGEE_EVENT_OFF);
+    is("an event that is on", known(t, 63), KHILZURGEE_EVENT_ON);
+    is("an event that was never signalled", known(t, 3), KHILZURGEE_EVENT_NEVER_SIGNALLED);
     call(t, SCHEDULE, 1, 1, 2, 0, 9);
     call(t, SCHEDULE, 2, 1, 0, 0x01020304, 0);
     call(t, SCHEDULE, 0, 0, 0, 0, 0);
@@ -101,6 +115,7 @@ static void after_calls(struct khilzurgee_tables *t)
 
     IS(t->clock, 1);
     IS(t->on, 0x8000000000000000u);
+    IS(t->signalled, 0x8000000000000001u);
     IS(t->running, 5);
     IS(t->channel, 1);
     IS(t->free_tasks, 0x1ffff80u);
@@ -160,6 +175,12 @@ static void broken(const struct khilzurgee_tables *good)
     is("the running task on broken tables", line.running, 0);
     IS(t.running, 3);
     IS(t.clock, good->clock);
+    t = *good;
+    t.on |= 8;
+    is("the refusal where an event is on that was never signalled", khilzurgee_advance(&t, timer, sizeof timer).refusal, 9);
+    t = *good;
+    t.signalled |= 2;
+    is("the refusal where an undefined event is signalled", khilzurgee_advance(&t, timer, sizeof timer).refusal, 9);
     memset(&t, 0xff, sizeof t);
     is("the refusal on tables of ones", khilzurgee_advance(&t, timer, sizeof timer).refusal, 9);
     is("the refusal of a load of no bytes", khilzurgee_load(&t, timer, 0).refusal, KHILZURGEE_BAD_LENGTH);

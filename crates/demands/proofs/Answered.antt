@@ -76,6 +76,7 @@ pub zeros : tabled allZero ≡ record {
   directory = record { modules = 0; every = 0; defined = 0; entries = replicate 32 (record { level = 0; units = 0; flags = 0; point = 0 }) };
   clock = 0;
   on = 0;
+  signalled = 0;
   running = 0;
   channel = 0;
   freeTasks = 0;

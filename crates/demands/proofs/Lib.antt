@@ -5,3 +5,4 @@ pub mod Aborted
 pub mod Dispatched
 pub mod Overtakes
 pub mod UnderRead
+pub mod Signalled

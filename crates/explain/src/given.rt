@@ -25,14 +25,21 @@ fn accepted(l: Line, code: u8, result: u8) -> Line
     match code {
         codes::LINK | codes::SCHEDULE | codes::OPERATOR_START => made(l, b": task ", result),
         codes::READ | codes::WRITE => made(l, b": request ", result),
-        codes::TEST_EVENT => {
-            if result == 2 {
-                text(l, b": it is on")
-            } else {
-                text(l, b": it is off")
-            }
-        }
+        codes::TEST_EVENT => known(l, result),
         _ => text(l, b": done"),
+    }
+}
+
+// What TEST EVENT has answered. A number that is none of its three answers is not taken for one of them.
+fn known(l: Line, result: u8) -> Line
+    requires { ⌜ l .used ≤ 344 ⌝ }
+    ensures { λ r. ⌜ r .used ≤ 440 ⌝ }
+{
+    match result {
+        1 => text(l, b": it is off"),
+        2 => text(l, b": it is on"),
+        3 => text(l, b": it was never signalled"),
+        _ => field(l, b": no known answer, ", result as u64),
     }
 }
 

@@ -1,7 +1,7 @@
 // Explain: a load, a call and its answer in words, for the support desk.
 //
-// It knows what calls and numbers of document 01 are called, and nothing of tables. Each function puts its words behind a line; the contracts say that they
-// fit. Which words they are is compared with what should be, by the gate.
+// It knows what calls and numbers of documents 01 and 02 are called, and nothing of tables. Each function puts its words behind a line; the contracts say
+// that they fit. Which words they are is compared with what should be, by the gate.
 mod asked;
 mod given;
 pub mod refused;

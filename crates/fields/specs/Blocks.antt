@@ -110,6 +110,8 @@ firstTests s =
     ∷ leb (s .running) 24
     ∷ leb (s .channel) 16
     ∷ eqb (bitAnd (s .on) (s .directory .defined)) (s .on)
+    ∷ eqb (bitAnd (s .on) (s .signalled)) (s .on)
+    ∷ eqb (bitAnd (s .signalled) (s .directory .defined)) (s .signalled)
     ∷ ltb (s .freeTasks) (2 ^ (taskBlocks + 1))
     ∷ not (has (s .freeTasks) 0)
     ∷ ltb (s .freeRequests) (2 ^ (requestBlocks + 1))

@@ -32,6 +32,8 @@ pub fn first_pass(t: Tables, marks: [u8; 41]) -> bool
         & (t.running <= 24)
         & (t.channel <= 16)
         & (t.on & d.defined == t.on)
+        & (t.on & t.signalled == t.on)
+        & (t.signalled & d.defined == t.signalled)
         & (t.freeTasks < 33554432)
         & !sets32::has(t.freeTasks, 0)
         & (t.freeRequests < 131072)

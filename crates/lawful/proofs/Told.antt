@@ -1,4 +1,4 @@
--- What `demands` cites: how a step ends, what is reached, whom an abort takes, that nobody overtakes, that core stays under a read.
+-- What `demands` cites: how a step ends, what is reached, whom an abort takes, that nobody overtakes, that core stays under a read, what is known of an event.
 pub mod Loaded
 pub mod Ends
 pub mod Results
@@ -18,3 +18,5 @@ pub mod Overtakes
 pub mod Pages
 pub mod UnderRead
 pub mod Throughout
+pub mod Signalling
+pub mod Signalled

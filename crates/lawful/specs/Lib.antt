@@ -4,4 +4,5 @@ pub mod Accepts
 pub mod Tables
 pub mod UnderRead
 pub mod Reached
+pub mod Signals
 pub mod InTurn

@@ -16,6 +16,11 @@ pub data Reached (image : List ℕ) : Tables → Type 0 where
   load : refusalOf (loadOf image .outcome) ≡ 0 → Reached image (tablesOf image)
   step : {t : Tables} (bytes : List ℕ) → Reached image t → Reached image (stepOf t bytes .tables)
 
+-- E1: the tables that calls leave, made one after the other from t on, refused ones included
+unfoldable pub afterCalls : Tables → List (List ℕ) → Tables
+afterCalls t [] = t
+afterCalls t (bytes ∷ calls) = afterCalls (stepOf t bytes .tables) calls
+
 -- the task k is "the first of the best level that is ready": it heads the ready queue of a level, and no better level has a ready task
 pub record First (s : State) (k : ℕ) : Type 0 where
   pub level : ℕ

@@ -123,7 +123,12 @@ pub record Sizes (s : State) : Type 0 where
   pub pools : length (s .pools) ≡ 4
   pub queues : length (s .queues) ≡ QUEUES
 
--- "Zero names no block": block 0 is zero. "The free blocks are sets", of blocks. "events on are defined"
+-- of the defined events d, o are on and m have been signalled: "an event that is on has been signalled, and a signalled one is defined" (E1). So "events on are defined"
+pub record Events (d o m : ℕ) : Type 0 where
+  pub on : (v : ℕ) → bit o v ≤ bit m v
+  pub signalled : (v : ℕ) → bit m v ≤ bit d v
+
+-- "Zero names no block": block 0 is zero. "The free blocks are sets", of blocks
 pub record Blank (s : State) : Type 0 where
   pub block : taskAt s 0 ≡ noTask
   pub request : requestAt s 0 ≡ noRequest
@@ -134,7 +139,7 @@ pub record Blank (s : State) : Type 0 where
   pub freeRequests-none : bit (s .freeRequests) 0 ≡ 0
   pub running : s .running ≤ taskBlocks
   pub channel : s .channel ≤ requestBlocks
-  pub on : (v : ℕ) → bit (s .on) v ≤ bit (s .directory .defined) v
+  pub events : Events (s .directory .defined) (s .on) (s .signalled)
 
 -- ---- All of them: the blocks h are in hand, and e (0: none) has a child though it is not in LINK. "the time queue by time, the channel queue by level"
 pub record Shape (s : State) (h : List ℕ) (e : ℕ) : Type 0 where

@@ -36,7 +36,7 @@ sessionCalls =
     ∷ ioDone
     ∷ []
 
--- "Output, whole"
+-- "Output, whole"; but document 02, E1: "The sixth line of document 01's session becomes `0 3 1`."
 unfoldable pub sessionOutput : List (List ℕ)
 sessionOutput =
     (0 ∷ 3 ∷ 0 ∷ [])
@@ -44,7 +44,7 @@ sessionOutput =
     ∷ (0 ∷ 2 ∷ 1 ∷ [])
     ∷ (0 ∷ 3 ∷ 1 ∷ [])
     ∷ (19 ∷ 0 ∷ 1 ∷ [])
-    ∷ (0 ∷ 1 ∷ 1 ∷ [])
+    ∷ (0 ∷ 3 ∷ 1 ∷ [])
     ∷ (0 ∷ 1 ∷ 1 ∷ [])
     ∷ (0 ∷ 1 ∷ 3 ∷ [])
     ∷ (0 ∷ 1 ∷ 1 ∷ [])

@@ -37,7 +37,7 @@ free-clear d = rw or-true
 
 -- All the others compute.
 state-rules : (d : Directory) → firstOf (directoryRows d) ≡ 0 → allTrue (stateRules (loaded d)) ≡ true
-unfolding allTrue stateRules loaded rules.directoryPasses rules.inRange rules.onDefined undefinedIn rules.tasksInPlace rules.requestsInPlace rules.queueFor rules.freeSets rules.coreHeld rules.holdsUnit rules.chainsEnd rules.upward rules.idleOnlyIfNoneReady rules.eventsWait rules.coreWaits rules.queuesInOrder rules.ofTheirLevel rules.coreNeeded needsCore rules.eventsPass rules.linked rules.owned rules.checksPending rules.endingPending rules.channelBusy standing _among_ upBy howMany allOf oneTo below
+unfolding allTrue stateRules loaded rules.directoryPasses rules.inRange rules.onDefined rules.onSignalled rules.signalledDefined undefinedIn rules.tasksInPlace rules.requestsInPlace rules.queueFor rules.freeSets rules.coreHeld rules.holdsUnit rules.chainsEnd rules.upward rules.idleOnlyIfNoneReady rules.eventsWait rules.coreWaits rules.queuesInOrder rules.ofTheirLevel rules.coreNeeded needsCore rules.eventsPass rules.linked rules.owned rules.checksPending rules.endingPending rules.channelBusy standing _among_ upBy howMany allOf oneTo below
 state-rules d e = rw (eq-eqb (firstOf (directoryRows d)) 0 e, free-clear d)
 
 pub loaded-lawful : (d : Directory) → firstOf (directoryRows d) ≡ 0 → rulesHold (tabled (loaded d)) ≡ true

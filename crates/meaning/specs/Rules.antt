@@ -3,6 +3,7 @@
 use mathlib.Core.Bool.{Bool, true, not, _&&_, _||_, Bool·beq}
 use mathlib.Core.List.{List, [], _∷_, _++_}
 use Prim.Native.Nat.{ℕ, zero, suc, _+_, _^_}
+use lib.Bits.{bitAnd}
 use lib.Dec.{eqb, leb, ltb}
 use Rattle.threads.specs.declared.Threads.{Threads}
 use Rattle.threads.specs.Threads.{BLOCKS, hd, counts, threaded, queuesOf, noQueue}
@@ -58,6 +59,14 @@ inRange s =
 -- ---- "events on are defined"
 unfoldable pub onDefined : State → Bool
 onDefined s = not (undefinedIn s (s .on))
+
+-- E1: "an event that is on has been signalled,"
+unfoldable pub onSignalled : State → Bool
+onSignalled s = eqb (bitAnd (s .on) (s .signalled)) (s .on)
+
+-- E1: "and a signalled one is defined"
+unfoldable pub signalledDefined : State → Bool
+signalledDefined s = not (undefinedIn s (s .signalled))
 
 -- ---- "this paragraph"
 
@@ -218,6 +227,8 @@ stateRules s =
     directoryPasses (s .directory)
     ∷ inRange s
     ∷ onDefined s
+    ∷ onSignalled s  -- E1
+    ∷ signalledDefined s  -- E1
     ∷ tasksInPlace s
     ∷ requestsInPlace s
     ∷ freeSets s

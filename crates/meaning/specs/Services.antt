@@ -5,7 +5,7 @@ use Prim.Native.Nat.{ℕ, _+_, _%_}
 use lib.Dec.{eqb, leb, ltb}
 use Rattle.words.specs.Words.{if_then_else_, each, has, adding, dropping, least}
 use Rattle.tables.specs.Blocks.{taskBlocks, Ready, InLink, InCheck, Ending, Queued, Done, request, newTask, awaitingRequest}
-use Rattle.tables.specs.State.{State, readyQueue, eventQueue, timeQueue, withClock, withOn, withRunning, withChannel, withFreeTasks, withFreeRequests, withTask, withRequest, taskAt, requestAt, queue, levelOf, leading, leaving}
+use Rattle.tables.specs.State.{State, readyQueue, eventQueue, timeQueue, withClock, withOn, withSignalled, withRunning, withChannel, withFreeTasks, withFreeRequests, withTask, withRequest, taskAt, requestAt, queue, levelOf, leading, leaving}
 use Rattle.calls.specs.declared.Call.{Call}
 use Rattle.calls.specs.Calls.{FREEMAIN, LINK, END, SCHEDULE, WAIT, SIGNAL, TEST-EVENT, DISPATCH-CHECK, READ, WRITE, CHECK, TIMER, IO-DONE, PROGRAM-CHECK, OPERATOR-START}
 use Rattle.meaning.specs.Conditions.{enough, holds, waiting}
@@ -61,15 +61,22 @@ woken k s =
     let t = taskAt s k in
     if enough s t.count t.events then madeReady (leaving s eventQueue k) k else s
 
+-- E1: "signalled on or off since the load": the event e has been, now
+abbrev pub noted : State → ℕ → State
+noted s e = withSignalled s (adding (s .signalled) e)
+
 unfoldable pub signal : State → Call → Effect
 signal s c =
-    (if eqb (c .value) 1 then each woken (queue s eventQueue) (withOn s (adding (s .on) (c .number)))
-    else withOn s (dropping (s .on) (c .number)))
+    let t = noted s (c .number) in  -- E1
+    (if eqb (c .value) 1 then each woken (queue t eventQueue) (withOn t (adding (t .on) (c .number)))
+    else withOn t (dropping (t .on) (c .number)))
     giving 1
 
 -- TEST EVENT: "10 gives 1 for off, 2 for on".
+-- Document 02, E1: "TEST EVENT has to answer 3 for a defined event that hasn't been signalled on or off since the load."
 unfoldable pub testEvent : State → Call → Effect
-testEvent s c = s giving (if has (s .on) (c .number) then 2 else 1)
+testEvent s c = s giving
+    (if not (has (s .signalled) (c .number)) then 3 else if has (s .on) (c .number) then 2 else 1)  -- E1
 
 -- "DISPATCH CHECK: if a strictly better level is ready, the caller goes to the front of its own ready level and stops running."
 unfoldable pub dispatchCheck : State → Call → Effect

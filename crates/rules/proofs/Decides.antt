@@ -7,7 +7,7 @@ use Rattle.tables.specs.declared.Tables.{Tables}
 use Rattle.tables.specs.State.{State, read}
 use Rattle.meaning.specs.Rules.{pointersSound, stateRules, rulesHold}
 use Rattle.words.proofs.Named.{Given, by-name, All, _also_, no-more}
-use Rattle.meaning.proofs.Rules.{Keeps, all-rules, rules-all}
+use Rattle.meaning.proofs.Rules.{KeepsEach, Keeps, all-rules, rules-all}
 use Rattle.fields.specs.Blocks.{firstPass}
 use Rattle.words.proofs.Truth.{both, and-of, same-truth}
 use Rattle.rules.specs.Orderly.{Orderly, linkTests, queueTests, secondPass}
@@ -18,7 +18,7 @@ module _ (t : Tables) (sound : Sound (t .threads)) where
   abbrev s : State
   s = read t
 
-  orderly-of : Passed s → Orderly t
+  orderly-of : KeepsEach s → Orderly t
   orderly-of p =
       record {
         sound = sound;
@@ -30,21 +30,11 @@ module _ (t : Tables) (sound : Sound (t .threads)) where
       }
 
   pub orderly : firstPass s ≡ true → Orderly t
-  orderly e = orderly-of (passed s e)
+  orderly e = orderly-of (passed s e .each)
 
   -- all rules hold: so both passes pass
   all-pass : Keeps s → firstPass s ≡ true
-  all-pass k =
-      let o : Orderly t =
-      record {
-        sound = sound;
-        directory = k .directoryPasses;
-        range = k .inRange;
-        tasks = k .tasksInPlace;
-        requests = k .requestsInPlace;
-        clear = k .fieldsClear;
-      } in
-      passes-first s k (waiters t o (k .eventsWait) (k .eventsPass))
+  all-pass k = passes-first s (k .each) (waiters t (orderly-of (k .each)) (k .eventsWait) (k .eventsPass))
 
   second-tests : Keeps s → All (linkTests s) × All (queueTests s)
   unfolding linkTests queueTests
@@ -55,7 +45,7 @@ module _ (t : Tables) (sound : Sound (t .threads)) where
   pass-all : Passed s → secondPass s ≡ true → Keeps s
   unfolding secondPass linkTests queueTests Given
   pass-all p e =
-      let o = orderly-of p in
+      let o = orderly-of (p .each) in
       let second = both (allTrue (linkTests s)) (allTrue (queueTests s)) e in
       by-name (linkTests s) (second .0) (
       λ coreHeld.
@@ -66,7 +56,7 @@ module _ (t : Tables) (sound : Sound (t .threads)) where
       λ coreWaits.
       λ queuesInOrder.
       λ channelBusy.
-      search (events-wait t o (p .waiters), their-level t o, events-pass t o (p .waiters))))
+      search (p .each, events-wait t o (p .waiters), their-level t o, events-pass t o (p .waiters))))
 
   kept : rulesHold t ≡ true → Keeps s
   unfolding rulesHold

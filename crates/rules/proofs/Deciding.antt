@@ -18,7 +18,7 @@ use Rattle.meaning.specs.Finish.{pendingOf, pending}
 use Rattle.meaning.specs.Rules as rules
 use Rattle.meaning.specs.Rules.{blankTask}
 use Rattle.words.proofs.Named.{Given, by-name}
-use Rattle.meaning.proofs.Rules.{Keeps}
+use Rattle.meaning.proofs.Rules.{KeepsEach}
 use Rattle.meaning.proofs.Parts.{taskRange, requestRange, taskStands, requestStands, taskFree, requestFree, taskClear, requestClear, ranges, in-range, sets, free-sets, clears, all-clear, request-range}
 use Rattle.fields.specs.Blocks.{waiterRight, pends, usedBy, taskPasses, requestPasses, firstTests, firstPass}
 use Rattle.threads.proofs.Tests.{all-to, to-all}
@@ -120,33 +120,25 @@ module _ (s : State) (free : (k : ℕ) → 1 ≤ k → k ≤ taskBlocks → task
 -- ---- the whole pass: the rules that it decides, and that each task block is a right waiter, where it is one
 
 pub record Passed (s : State) : Type 0 where
-  pub directoryPasses : rules.directoryPasses (s .directory) ≡ true
-  pub inRange : rules.inRange s ≡ true
-  pub onDefined : rules.onDefined s ≡ true
-  pub tasksInPlace : rules.tasksInPlace s ≡ true
-  pub requestsInPlace : rules.requestsInPlace s ≡ true
-  pub freeSets : rules.freeSets s ≡ true
-  pub fieldsClear : rules.fieldsClear s ≡ true
-  pub coreNeeded : rules.coreNeeded s ≡ true
+  pub each : KeepsEach s
   pub waiters : (k : ℕ) → 1 ≤ k → k ≤ taskBlocks → waits s k ≡ true
-  pub owned : rules.owned s ≡ true
-  pub checksPending : rules.checksPending s ≡ true
-  pub endingPending : rules.endingPending s ≡ true
 
 module _ (s : State) where
-  -- "events on are defined"
-  on-told : rules.onDefined s ≡ eqb (bitAnd (s .on) (s .directory .defined)) (s .on)
-  unfolding rules.onDefined undefinedIn
-  on-told = twice (eqb (bitAnd (s .on) (s .directory .defined)) (s .on))
+  -- a set of defined events, as the rules and as the pass have it
+  defined-told : (set : ℕ) → not (undefinedIn s set) ≡ eqb (bitAnd set (s .directory .defined)) set
+  unfolding undefinedIn
+  defined-told set = twice (eqb (bitAnd set (s .directory .defined)) set)
 
   pub passed : firstPass s ≡ true → Passed s
-  unfolding firstPass firstTests Given rules.tasksInPlace rules.requestsInPlace rules.coreNeeded rules.owned rules.checksPending rules.endingPending pendingOf pending
+  unfolding firstPass firstTests Given rules.onDefined rules.onSignalled rules.signalledDefined rules.tasksInPlace rules.requestsInPlace rules.coreNeeded rules.owned rules.checksPending rules.endingPending pendingOf pending
   passed e =
       by-name (firstTests s) e (
       λ directory.
       λ running.
       λ channel.
       λ on.
+      λ on-signalled.
+      λ signalled.
       λ freeTasks.
       λ freeTasks-none.
       λ freeRequests.
@@ -159,45 +151,50 @@ module _ (s : State) where
       let t : (k : ℕ) → 1 ≤ k → k ≤ taskBlocks → TaskPasses s k = λ k l h. task-parts s k (all-to (taskPasses s) taskBlocks tasks k l h) in
       let r : (k : ℕ) → 1 ≤ k → k ≤ requestBlocks → RequestPasses s k = λ k l h. request-parts s k (all-to (requestPasses s) requestBlocks requests k l h) in
       record {
-        directoryPasses = directory;
-        inRange =
-            in-range s
-            (record {
-              running = running;
-              channel = channel;
-              tasks = to-all (taskRange s) taskBlocks (λ k l h. t k l h .range);
-              requests = to-all (requestRange s) requestBlocks (λ k l h. r k l h .range);
-            });
-        onDefined = on-told ∙ on;
-        tasksInPlace = to-all (taskStands s) taskBlocks (λ k l h. t k l h .stands);
-        requestsInPlace = to-all (requestStands s) requestBlocks (λ k l h. r k l h .stands);
-        freeSets =
-            free-sets s
-            (record {
-              tasks = to-all (taskFree s) taskBlocks (λ k l h. t k l h .free);
-              requests = to-all (requestFree s) requestBlocks (λ k l h. r k l h .free);
-              freeTasks = freeTasks;
-              freeTasks-none = freeTasks-none;
-              freeRequests = freeRequests;
-              freeRequests-none = freeRequests-none;
-            });
-        fieldsClear =
-            all-clear s
-            (record {
-              tasks = to-all (taskClear s) taskBlocks (λ k l h. t k l h .clear);
-              requests = to-all (requestClear s) requestBlocks (λ k l h. r k l h .clear);
-              task = task;
-              request = request;
-              pool = pool;
-            });
-        coreNeeded = to-all (neededAt s) taskBlocks (λ k l h. t k l h .needs);
+        each =
+            record {
+              directoryPasses = directory;
+              inRange =
+                  in-range s
+                  (record {
+                    running = running;
+                    channel = channel;
+                    tasks = to-all (taskRange s) taskBlocks (λ k l h. t k l h .range);
+                    requests = to-all (requestRange s) requestBlocks (λ k l h. r k l h .range);
+                  });
+              onDefined = defined-told (s .on) ∙ on;
+              onSignalled = on-signalled;
+              signalledDefined = defined-told (s .signalled) ∙ signalled;
+              tasksInPlace = to-all (taskStands s) taskBlocks (λ k l h. t k l h .stands);
+              requestsInPlace = to-all (requestStands s) requestBlocks (λ k l h. r k l h .stands);
+              freeSets =
+                  free-sets s
+                  (record {
+                    tasks = to-all (taskFree s) taskBlocks (λ k l h. t k l h .free);
+                    requests = to-all (requestFree s) requestBlocks (λ k l h. r k l h .free);
+                    freeTasks = freeTasks;
+                    freeTasks-none = freeTasks-none;
+                    freeRequests = freeRequests;
+                    freeRequests-none = freeRequests-none;
+                  });
+              fieldsClear =
+                  all-clear s
+                  (record {
+                    tasks = to-all (taskClear s) taskBlocks (λ k l h. t k l h .clear);
+                    requests = to-all (requestClear s) requestBlocks (λ k l h. r k l h .clear);
+                    task = task;
+                    request = request;
+                    pool = pool;
+                  });
+              coreNeeded = to-all (neededAt s) taskBlocks (λ k l h. t k l h .needs);
+              owned = to-all (ownedAt s) requestBlocks (λ k l h. sym (used-owner s (λ k l h. t k l h .free) task k (r k l h .range)) ∙ r k l h .owner);
+              checksPending = to-all (checks s) taskBlocks (λ k l h. t k l h .check);
+              endingPending = to-all (ends s) taskBlocks (λ k l h. t k l h .ending);
+            };
         waiters = λ k l h. t k l h .waiter;
-        owned = to-all (ownedAt s) requestBlocks (λ k l h. sym (used-owner s (λ k l h. t k l h .free) task k (r k l h .range)) ∙ r k l h .owner);
-        checksPending = to-all (checks s) taskBlocks (λ k l h. t k l h .check);
-        endingPending = to-all (ends s) taskBlocks (λ k l h. t k l h .ending);
       })
 
-  module _ (p : Keeps s) (waiters : (k : ℕ) → 1 ≤ k → k ≤ taskBlocks → waits s k ≡ true) where
+  module _ (p : KeepsEach s) (waiters : (k : ℕ) → 1 ≤ k → k ≤ taskBlocks → waits s k ≡ true) where
     task-passes : (k : ℕ) → 1 ≤ k → k ≤ taskBlocks → TaskPasses s k
     unfolding rules.tasksInPlace rules.coreNeeded rules.checksPending rules.endingPending pendingOf pending
     task-passes k l h =
@@ -226,14 +223,16 @@ module _ (s : State) where
         }
 
     pub passes-first : firstPass s ≡ true
-    unfolding firstPass firstTests allTrue
+    unfolding firstPass firstTests allTrue rules.onDefined rules.onSignalled rules.signalledDefined
     passes-first =
         search (
           and-of,
           ranges s (p .inRange),
           sets s (p .freeSets),
           clears s (p .fieldsClear),
-          sym on-told ∙ p .onDefined,
+          sym (defined-told (s .on)) ∙ p .onDefined,
+          p .onSignalled,
+          sym (defined-told (s .signalled)) ∙ p .signalledDefined,
           to-all (requestPasses s) requestBlocks (λ k l h. request-whole s k (request-passes k l h)),
           to-all (taskPasses s) taskBlocks (λ k l h. task-whole s k (task-passes k l h)),
         )

@@ -29,7 +29,7 @@ fn one(t: Tables) -> Given
     }
 }
 
-// TEST EVENT: the result says whether the event is on.
+// TEST EVENT: the result says whether the event is on, off, or was never signalled.
 fn tell(t: Tables, c: Call) -> Given
     requires { ⌜ Sound (t .threads) ⌝ }
     ensures { λ r. ⌜ Gives r (testEvent (read t) c) ⌝ }

@@ -15,12 +15,13 @@ use waiting::wait;
 use waiting::wake;
 use words::sets64;
 
-// The event is on, and every event waiter whose condition holds is made ready; or it is off, and nobody is woken.
+// The event has been signalled, on or off. It is on, and every event waiter whose condition holds is made ready; or it is off, and nobody is woken.
 pub fn signal(t: Tables, c: Call) -> Tables
     requires { ⌜ LawfulTables t × (c .number ≤ 63) × (bit (t .directory .defined) (c .number) ≡ 1) ⌝ }
     ensures { λ r. ⌜ Shows r (signal (read t) c .state) ⌝ }
 {
     let mut u = t;
+    u.signalled = sets64::adding(u.signalled, c.number as u32);
     if c.value == 1 {
         u.on = sets64::adding(u.on, c.number as u32);
         return wake::wake_events(u);
@@ -29,10 +30,13 @@ pub fn signal(t: Tables, c: Call) -> Tables
     u
 }
 
-// 1 for an event that is off, 2 for one that is on.
+// 1 for an event that is off, 2 for one that is on, 3 for one that has not been signalled since the load.
 pub fn test_event(t: Tables, c: Call) -> u8
     ensures { λ r. ⌜ r ≡ testEvent (read t) c .result ⌝ }
 {
+    if !sets64::has(t.signalled, c.number as u32) {
+        return 3;
+    }
     if sets64::has(t.on, c.number as u32) {
         2
     } else {

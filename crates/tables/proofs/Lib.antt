@@ -1,3 +1,4 @@
 pub mod Held
 pub mod Unique
 pub mod Lies
+pub mod Lengths

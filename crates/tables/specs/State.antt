@@ -16,6 +16,7 @@ pub record State : Type 0 where
   pub directory : Directory
   pub clock : ℕ
   pub on : ℕ
+  pub signalled : ℕ  -- E1
   pub running : ℕ
   pub channel : ℕ
   pub freeTasks : ℕ
@@ -51,39 +52,43 @@ requestOf n = n - taskBlocks
 
 -- ---- A state with one part changed. Only these few lines name every part.
 
-abbrev state : Directory → ℕ → ℕ → ℕ → ℕ → ℕ → ℕ → List ℕ → List Task → List Request → List (List ℕ) → State
-state d c o r h i f p t q l =
-    record { directory = d; clock = c; on = o; running = r; channel = h; freeTasks = i; freeRequests = f; pools = p; tasks = t; requests = q; queues = l }
+abbrev state : Directory → ℕ → ℕ → ℕ → ℕ → ℕ → ℕ → ℕ → List ℕ → List Task → List Request → List (List ℕ) → State
+state d c o g r h i f p t q l =
+    record { directory = d; clock = c; on = o; signalled = g; running = r; channel = h; freeTasks = i; freeRequests = f; pools = p; tasks = t; requests = q; queues = l }
 
 abbrev pub withClock : State → ℕ → State
-withClock s x = state s.directory x s.on s.running s.channel s.freeTasks s.freeRequests s.pools s.tasks s.requests s.queues
+withClock s x = state s.directory x s.on s.signalled s.running s.channel s.freeTasks s.freeRequests s.pools s.tasks s.requests s.queues
 
 abbrev pub withOn : State → ℕ → State
-withOn s x = state s.directory s.clock x s.running s.channel s.freeTasks s.freeRequests s.pools s.tasks s.requests s.queues
+withOn s x = state s.directory s.clock x s.signalled s.running s.channel s.freeTasks s.freeRequests s.pools s.tasks s.requests s.queues
+
+-- E1: the events that have been "signalled on or off since the load"
+abbrev pub withSignalled : State → ℕ → State
+withSignalled s x = state s.directory s.clock s.on x s.running s.channel s.freeTasks s.freeRequests s.pools s.tasks s.requests s.queues
 
 abbrev pub withRunning : State → ℕ → State
-withRunning s x = state s.directory s.clock s.on x s.channel s.freeTasks s.freeRequests s.pools s.tasks s.requests s.queues
+withRunning s x = state s.directory s.clock s.on s.signalled x s.channel s.freeTasks s.freeRequests s.pools s.tasks s.requests s.queues
 
 abbrev pub withChannel : State → ℕ → State
-withChannel s x = state s.directory s.clock s.on s.running x s.freeTasks s.freeRequests s.pools s.tasks s.requests s.queues
+withChannel s x = state s.directory s.clock s.on s.signalled s.running x s.freeTasks s.freeRequests s.pools s.tasks s.requests s.queues
 
 abbrev pub withFreeTasks : State → ℕ → State
-withFreeTasks s x = state s.directory s.clock s.on s.running s.channel x s.freeRequests s.pools s.tasks s.requests s.queues
+withFreeTasks s x = state s.directory s.clock s.on s.signalled s.running s.channel x s.freeRequests s.pools s.tasks s.requests s.queues
 
 abbrev pub withFreeRequests : State → ℕ → State
-withFreeRequests s x = state s.directory s.clock s.on s.running s.channel s.freeTasks x s.pools s.tasks s.requests s.queues
+withFreeRequests s x = state s.directory s.clock s.on s.signalled s.running s.channel s.freeTasks x s.pools s.tasks s.requests s.queues
 
 abbrev pub withPools : State → List ℕ → State
-withPools s x = state s.directory s.clock s.on s.running s.channel s.freeTasks s.freeRequests x s.tasks s.requests s.queues
+withPools s x = state s.directory s.clock s.on s.signalled s.running s.channel s.freeTasks s.freeRequests x s.tasks s.requests s.queues
 
 abbrev pub withTasks : State → List Task → State
-withTasks s x = state s.directory s.clock s.on s.running s.channel s.freeTasks s.freeRequests s.pools x s.requests s.queues
+withTasks s x = state s.directory s.clock s.on s.signalled s.running s.channel s.freeTasks s.freeRequests s.pools x s.requests s.queues
 
 abbrev pub withRequests : State → List Request → State
-withRequests s x = state s.directory s.clock s.on s.running s.channel s.freeTasks s.freeRequests s.pools s.tasks x s.queues
+withRequests s x = state s.directory s.clock s.on s.signalled s.running s.channel s.freeTasks s.freeRequests s.pools s.tasks x s.queues
 
 abbrev pub withQueues : State → List (List ℕ) → State
-withQueues s x = state s.directory s.clock s.on s.running s.channel s.freeTasks s.freeRequests s.pools s.tasks s.requests x
+withQueues s x = state s.directory s.clock s.on s.signalled s.running s.channel s.freeTasks s.freeRequests s.pools s.tasks s.requests x
 
 -- with one pool, one block or one queue changed
 abbrev pub withPool : State → ℕ → ℕ → State
@@ -138,7 +143,7 @@ leaving s q x = withQueue s q (without x (queue s q))
 
 abbrev pub read : Tables → State
 read t =
-    state t.directory t.clock t.on t.running t.channel t.freeTasks t.freeRequests t.pools t.tasks t.requests (queuesOf (t .threads))
+    state t.directory t.clock t.on t.signalled t.running t.channel t.freeTasks t.freeRequests t.pools t.tasks t.requests (queuesOf (t .threads))
 
 -- the tables of a state, with these pointers
 abbrev pub pointing : State → Threads → Tables
@@ -147,6 +152,7 @@ pointing s x =
       directory = s .directory;
       clock = s .clock;
       on = s .on;
+      signalled = s .signalled;  -- E1
       running = s .running;
       channel = s .channel;
       freeTasks = s .freeTasks;
@@ -167,9 +173,9 @@ allUpTo n = 2 ^ (n + 1) - 2
 -- the state of a directory in which nothing is used, with the blocks of two sets free
 abbrev pub unused : Directory → ℕ → ℕ → State
 unused d i f =
-    state d 0 0 0 0 i f (replicate 4 0) (replicate (taskBlocks + 1) noTask) (replicate (requestBlocks + 1) noRequest) (replicate QUEUES [])
+    state d 0 0 0 0 0 i f (replicate 4 0) (replicate (taskBlocks + 1) noTask) (replicate (requestBlocks + 1) noRequest) (replicate QUEUES [])
 
--- "A loaded state has no tasks, all events off, clock 0."
+-- "A loaded state has no tasks, all events off, clock 0." No event has been signalled either (E1).
 unfoldable pub loaded : Directory → State
 loaded d = unused d (allUpTo taskBlocks) (allUpTo requestBlocks)
 

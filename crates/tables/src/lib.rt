@@ -42,12 +42,14 @@ pub struct Request {
     pub bytes: u16,
 }
 
-// on: the events that are on. pools: the granted units of each level, one bit each. freeTasks, freeRequests: the free blocks, bit k for block k.
+// on: the events that are on. signalled: those of which a SIGNAL, on or off, has been accepted since the load.
+// pools: the granted units of each level, one bit each. freeTasks, freeRequests: the free blocks, bit k for block k.
 // running, channel: the block that runs, and the one on the channel; 0 for none.
 #[repr(C)]
 pub struct Tables {
     pub directory: Directory,
     pub on: u64,
+    pub signalled: u64,
     pub pools: [u64; 4],
     pub tasks: [Task; TASK_SLOTS],
     pub clock: u32,
@@ -59,7 +61,7 @@ pub struct Tables {
     pub threads: Threads,
 }
 
-// The tables of a directory, just loaded: no tasks, all events off, clock 0.
+// The tables of a directory, just loaded: no tasks, no event on and none signalled, clock 0.
 pub fn loaded(directory: Directory) -> Tables
     ensures { λ r. ⌜ r ≡ tabled (loaded directory) ⌝ }
 {
@@ -99,6 +101,7 @@ fn unused(directory: Directory, freeTasks: u32, freeRequests: u32) -> Tables
     Tables {
         directory: directory,
         on: 0,
+        signalled: 0,
         pools: [0; 4],
         tasks: [task; TASK_SLOTS],
         clock: 0,

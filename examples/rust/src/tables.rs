@@ -2,15 +2,16 @@
 //!
 //! Every byte of the tables is a field's: none lies between two fields or behind the last. So equal tables are equal bytes.
 
+use crate::event::Event;
 use crate::refusal::Refusal;
 use std::fmt;
 use std::mem::{align_of, offset_of, size_of, transmute};
 
 /// The form of stored tables: it changes with the layout. Keep it beside them, and read back none of another version.
-pub const TABLES_VERSION: u32 = 1;
+pub const TABLES_VERSION: u32 = 2;
 
 /// How many bytes the tables are.
-pub const TABLES_LENGTH: usize = 1128;
+pub const TABLES_LENGTH: usize = 1136;
 
 /// A module, as in the image.
 #[repr(C)]
@@ -76,7 +77,10 @@ pub struct Threads {
 #[derive(Clone, Copy, Debug, PartialEq, Eq)]
 pub struct Tables {
     pub directory: Directory,
+    /// The events that are on, bit e for event e; each was signalled.
     pub on: u64,
+    /// The events of which a SIGNAL, on or off, was accepted since the load; each is defined. [`Tables::event`] reads both.
+    pub signalled: u64,
     pub pools: [u64; 4],
     pub tasks: [Task; 25],
     pub clock: u32,
@@ -89,6 +93,20 @@ pub struct Tables {
 }
 
 impl Tables {
+    /// What is known of an event: what TEST EVENT answers of it. `None` where that is refused by 19, the event being undefined or above 63.
+    pub fn event(&self, number: u8) -> Option<Event> {
+        let bit = 1u64.checked_shl(number.into())?;
+        if self.directory.defined & bit == 0 {
+            None
+        } else if self.signalled & bit == 0 {
+            Some(Event::NeverSignalled)
+        } else if self.on & bit == 0 {
+            Some(Event::Off)
+        } else {
+            Some(Event::On)
+        }
+    }
+
     /// The stored form: the bytes of the tables, on a little-endian machine. The version goes beside them, [`TABLES_VERSION`].
     pub fn to_bytes(&self) -> [u8; TABLES_LENGTH] {
         // SAFETY: the two are of one size, and every byte of the tables is a field's, so that each is set.
@@ -108,7 +126,7 @@ impl Tables {
 pub struct Answer {
     /// 0 if accepted; [`Answer::refused`] has the reason.
     pub refusal: u8,
-    /// 0 if refused.
+    /// 0 if refused; of a TEST EVENT [`Answer::event`] has what it means.
     pub result: u8,
     /// The running task afterwards, 0 if idle.
     pub running: u8,
@@ -118,6 +136,15 @@ impl Answer {
     /// Why the call was refused, `None` where it was accepted. An image is refused by the numbers of [`image_check`](crate::image_check), which are none of these.
     pub fn refused(&self) -> Option<Refusal> {
         Refusal::of(self.refusal)
+    }
+
+    /// What an accepted TEST EVENT says of its event, `None` where it was refused. An answer does not tell which call it answers: of any other call this
+    /// means nothing.
+    pub fn event(&self) -> Option<Event> {
+        match self.refusal {
+            0 => Event::of(self.result),
+            _ => None,
+        }
     }
 }
 
@@ -149,8 +176,8 @@ layout!(Task, 24, events 0, time 8, count 12, program 16, request 18, place 20, 
 layout!(Request, 6, place 0, owner 1, device 2, command 3, bytes 4);
 layout!(Threads, 100, fwd 0, back 41, first 82, last 91);
 layout!(
-    Tables, TABLES_LENGTH, directory 0, on 272, pools 280, tasks 312, clock 912, free_tasks 916, free_requests 920, requests 924, running 1026, channel 1027,
-    threads 1028
+    Tables, TABLES_LENGTH, directory 0, on 272, signalled 280, pools 288, tasks 320, clock 920, free_tasks 924, free_requests 928, requests 932, running 1034,
+    channel 1035, threads 1036
 );
 layout!(Answer, 3, refusal 0, result 1, running 2);
 

@@ -1,6 +1,6 @@
 //! What the safe type promises: the document's first calls, refused images, tables that hold anything, and tables stored as bytes.
 
-use khilzurgee::{block_check, image_check, Answer, Refusal, Station, Tables};
+use khilzurgee::{block_check, image_check, Answer, Event, Refusal, Station, Tables, TABLES_LENGTH};
 
 /// The image of the session in full: N 2, events 0 and 1, three modules; its check is 1,906.
 fn image() -> [u8; 512] {
@@ -67,6 +67,64 @@ fn refused_calls_leave_the_tables() {
     assert_eq!(station, before);
 }
 
+/// SIGNAL with its value: 0 is off, 1 is on.
+fn signal(number: u8, value: u8) -> [u8; 16] {
+    let mut signal = call(9, number);
+    signal[3] = value;
+    signal
+}
+
+/// What is known of every event from 0 on, by TEST EVENT; the tables say the same. Only the first two are defined: all others are refused by 19.
+fn tested(station: &mut Station) -> [Option<Event>; 2] {
+    for number in 0..=255 {
+        let before = *station.tables();
+        let answer = station.call(&call(10, number));
+        assert_eq!(answer.event(), before.event(number));
+        assert_eq!(answer.refused(), if number < 2 { None } else { Some(Refusal::NoEvent) });
+        assert_eq!(*station.tables(), before);
+    }
+    [station.tables().event(0), station.tables().event(1)]
+}
+
+/// Document 02, E1: an event nobody has posted isn't off.
+#[test]
+fn never_signalled_is_not_off() {
+    let (off, on, never) = (Some(Event::Off), Some(Event::On), Some(Event::NeverSignalled));
+    let mut station = Station::load(&image()).expect("a good image");
+    assert_eq!(station.tables().event(0), never);
+    assert_eq!(station.call(&signal(0, 1)), answer(11, 0, 0));
+    assert_eq!(station.call(&call(35, 0)), answer(0, 1, 1));
+    assert_eq!(station.call(&call(10, 0)), answer(0, 3, 1));
+    assert_eq!(tested(&mut station), [never, never]);
+    // Refused: the value is none, and the event is undefined.
+    assert_eq!(station.call(&signal(0, 2)), answer(23, 0, 1));
+    assert_eq!(station.call(&signal(2, 1)), answer(19, 0, 1));
+    assert_eq!(station.call(&signal(64, 1)), answer(19, 0, 1));
+    assert_eq!(tested(&mut station), [never, never]);
+    // Only off; then the other one on, and off again.
+    assert_eq!(station.call(&signal(0, 0)), answer(0, 1, 1));
+    assert_eq!(tested(&mut station), [off, never]);
+    assert_eq!(station.call(&signal(1, 1)), answer(0, 1, 1));
+    assert_eq!(tested(&mut station), [off, on]);
+    assert_eq!(station.call(&signal(1, 0)), answer(0, 1, 1));
+    assert_eq!(tested(&mut station), [off, off]);
+    // Stored tables know it still; a load begins again.
+    let mut stored = Station::from(Tables::from_bytes(station.tables().to_bytes()));
+    assert_eq!(tested(&mut stored), [off, off]);
+    assert_eq!(Station::load(&image()).expect("a good image").tables().event(0), never);
+}
+
+#[test]
+fn events_by_result() {
+    let known: Vec<Event> = (0..=255).filter_map(Event::of).collect();
+    assert_eq!(known, [Event::Off, Event::On, Event::NeverSignalled]);
+    assert!(known.iter().all(|event| Event::of(*event as u8) == Some(*event)));
+    assert_eq!(known.iter().map(Event::to_string).collect::<Vec<String>>(), ["off", "on", "never signalled"]);
+    assert_eq!(answer(0, 3, 1).event(), Some(Event::NeverSignalled));
+    assert_eq!(answer(19, 3, 1).event(), None);
+    assert_eq!(Tables::from_bytes([0; TABLES_LENGTH]).event(0), None);
+}
+
 /// Document 02, E4: no giving core back under a read.
 #[test]
 fn no_freemain_under_a_read() {
@@ -96,9 +154,26 @@ fn refusals_by_number() {
 fn broken_tables_are_9() {
     let mut tables = *Station::load(&image()).expect("a good image").tables();
     tables.running = 24;
+    refused_by_9(tables);
+}
+
+fn refused_by_9(tables: Tables) {
     let mut station = Station::from(tables);
     assert_eq!(station.call(&call(32, 0)), answer(9, 0, 0));
     assert_eq!(*station.tables(), tables);
+}
+
+/// Document 02, E1: "an event that is on has been signalled, and a signalled one is defined".
+#[test]
+fn rules_of_events() {
+    let loaded = *Station::load(&image()).expect("a good image").tables();
+    let with = |on, signalled| Tables { on, signalled, ..loaded };
+    for (on, signalled) in [(0, 0), (0, 3), (1, 1), (2, 3), (3, 3)] {
+        assert_eq!(Station::from(with(on, signalled)).call(&call(32, 0)), answer(0, 1, 0));
+    }
+    for (on, signalled) in [(1, 0), (3, 2), (0, 4), (1, 5), (4, 4), (4, 0)] {
+        refused_by_9(with(on, signalled));
+    }
 }
 
 #[test]

@@ -3,9 +3,10 @@ use borrow.Author.Needs.{needs}
 use borrow.Author.Tests.{not-true, not-false}
 use mathlib.Core.Path.{sym, _∙_}
 use Prim.Native.Nat.{ℕ}
-use lib.ListN.{getD, length-map}
+use lib.ListN.{getD}
 use mir.Syntax.{w64}
 use mir.Val.{Fits}
+use Rattle.tables.proofs.Lengths.{tasks-long, requests-long}
 use Rattle.meaning.specs.Step.{refused}
 use Rattle.lawful.specs.Tables.{Typed}
 use Rattle.lawful.proofs.Told.Steps.{rules-tables}
@@ -20,8 +21,8 @@ pool-fits c level = search needs
 typed : (c : tie.Start) → Typed (c .args .t)
 typed c =
     record {
-      tasks = sym (length-map (c .args .t .tasks) _) ∙ c .good .0 .1 .1 .1 .1 .1 .0 .1 .0 .1;
-      requests = sym (length-map (c .args .t .requests) _) ∙ c .good .0 .1 .1 .1 .1 .1 .1 .1 .1 .1 .0 .1 .0 .1;
+      tasks = tasks-long (c .args .t) _ (c .good .0);
+      requests = requests-long (c .args .t) _ (c .good .0);
       pools = search needs;
       queues = search needs;
       low = λ level. pool-fits c level .fits;

@@ -45,7 +45,7 @@ returns c =
     let task = request .before .before in
     let requests-none = task .before .before in
     let tasks-none = requests-none .before in
-    let directory = tasks-none .before .before in
+    let directory = tasks-none .before .before .before in
     let asked = directory .before .before in
     let given = asked .before .before in
     rw (

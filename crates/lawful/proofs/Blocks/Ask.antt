@@ -102,7 +102,7 @@ module _ (s : State) (r : ℕ) (x : Request) where
             freeRequests-none = u .freeRequests-others 0 (λ z. omega (arith, z, u .some)) ∙ b .freeRequests-none;
             running = b .running;
             channel = u .bound;
-            on = b .on;
+            events = b .events;
           };
           tasks = λ y a b. let w = g .tasks y a b in record {
             fields = w .fields;

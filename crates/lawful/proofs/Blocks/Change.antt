@@ -105,7 +105,7 @@ module _ (s : State) (k : ℕ) (ts : List Task) (r i : ℕ) (p : List ℕ) (l : 
             freeRequests-none = b .freeRequests-none;
             running = u .running;
             channel = b .channel;
-            on = b .on;
+            events = b .events;
           };
           tasks = λ y a b.
               ⊎-elim (λ z. rw (z .1) (u .own))

@@ -154,7 +154,7 @@ module _ (o : State) (c : Call) where
   signal-chain : c .code ≡ SIGNAL → To o c (signal o c .state)
   unfolding signal
   signal-chain e =
-      either o c (eqb (c .value) 1) (λ v. each-chain o c woken woken-chain (queue o eventQueue) _ (begun next tells _ e)) (λ v. begun next tells _ e)
+      either o c (eqb (c .value) 1) (λ v. each-chain o c woken woken-chain (queue o eventQueue) _ (begun next tells _ _ e)) (λ v. begun next tells _ _ e)
 
   test-chain : To o c (testEvent o c .state)
   unfolding testEvent

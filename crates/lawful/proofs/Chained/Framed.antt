@@ -82,6 +82,9 @@ module _ {B Q : ℕ → Type 0} where
     pub frame-on : t .on ≡ s .on
     frame-on = ap (λ (x : State). x .on) (f .others)
 
+    pub frame-signalled : t .signalled ≡ s .signalled
+    frame-signalled = ap (λ (x : State). x .signalled) (f .others)
+
     pub frame-channel : t .channel ≡ s .channel
     frame-channel = ap (λ (x : State). x .channel) (f .others)
 

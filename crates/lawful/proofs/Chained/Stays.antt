@@ -37,28 +37,28 @@ module _ {A : Type 0} (x d : A) where
 pub record Leaves (c : Call) (s t : State) : Type 0 where
   pub directory : t .directory ≡ s .directory
   pub clock : (t .clock ≡ s .clock) ⊎ ((c .code ≡ TIMER) × (t .clock ≡ s .clock + 1))
-  pub on : (t .on ≡ s .on) ⊎ (c .code ≡ SIGNAL)
+  pub events : ((t .on ≡ s .on) × (t .signalled ≡ s .signalled)) ⊎ (c .code ≡ SIGNAL)
   pub running : (t .running ≡ s .running) ⊎ ((needsTask (c .code) ≡ true) × (t .running ≡ 0))
 
-plain : {c : Call} {s t : State} → t .directory ≡ s .directory → t .clock ≡ s .clock → t .on ≡ s .on → t .running ≡ s .running → Leaves c s t
-plain d c o r = record { directory = d; clock = inl c; on = inl o; running = inl r }
+plain : {c : Call} {s t : State} → t .directory ≡ s .directory → t .clock ≡ s .clock → (t .on ≡ s .on) × (t .signalled ≡ s .signalled) → t .running ≡ s .running → Leaves c s t
+plain d c o r = record { directory = d; clock = inl c; events = inl o; running = inl r }
 
 pub leaves-numbers : {o : State} {c : Call} {s t : State} → Small o c s t → Leaves c s t
-leaves-numbers (ticks e) = record { directory = refl; clock = inr (e, refl); on = inl refl; running = inl refl }
-leaves-numbers (tells x e) = record { directory = refl; clock = inl refl; on = inr e; running = inl refl }
-leaves-numbers (stops e) = record { directory = refl; clock = inl refl; on = inl refl; running = inr (e, refl) }
-leaves-numbers (carries x) = plain refl refl refl refl
-leaves-numbers (tasksFree x) = plain refl refl refl refl
-leaves-numbers (requestsFree x) = plain refl refl refl refl
-leaves-numbers (pools level x) = plain refl refl refl refl
-leaves-numbers (block k b) = plain refl refl refl refl
-leaves-numbers (asked r b) = plain refl refl refl refl
-leaves-numbers (lines q b) = plain refl refl refl refl
+leaves-numbers (ticks e) = record { directory = refl; clock = inr (e, refl); events = inl (refl, refl); running = inl refl }
+leaves-numbers (tells x y e) = record { directory = refl; clock = inl refl; events = inr e; running = inl refl }
+leaves-numbers (stops e) = record { directory = refl; clock = inl refl; events = inl (refl, refl); running = inr (e, refl) }
+leaves-numbers (carries x) = plain refl refl (refl, refl) refl
+leaves-numbers (tasksFree x) = plain refl refl (refl, refl) refl
+leaves-numbers (requestsFree x) = plain refl refl (refl, refl) refl
+leaves-numbers (pools level x) = plain refl refl (refl, refl) refl
+leaves-numbers (block k b) = plain refl refl (refl, refl) refl
+leaves-numbers (asked r b) = plain refl refl (refl, refl) refl
+leaves-numbers (lines q b) = plain refl refl (refl, refl) refl
 
 -- ---- One small change: the block y.
 pub block-of : {o : State} {c : Call} {s t : State} → Small o c s t → (y : ℕ) → (taskAt t y ≡ taskAt s y) ⊎ Block o c s y (taskAt t y)
 block-of (ticks e) y = inl refl
-block-of (tells x e) y = inl refl
+block-of (tells x z e) y = inl refl
 block-of (stops e) y = inl refl
 block-of (carries x) y = inl refl
 block-of (tasksFree x) y = inl refl
@@ -71,7 +71,7 @@ block-of (lines q b) y = inl refl
 -- ---- One small change: the request r, the queue q.
 pub ask-of : {o : State} {c : Call} {s t : State} → Small o c s t → (r : ℕ) → (requestAt t r ≡ requestAt s r) ⊎ Ask o c s r (requestAt t r)
 ask-of (ticks e) y = inl refl
-ask-of (tells x e) y = inl refl
+ask-of (tells x z e) y = inl refl
 ask-of (stops e) y = inl refl
 ask-of (carries x) y = inl refl
 ask-of (tasksFree x) y = inl refl
@@ -83,7 +83,7 @@ ask-of (lines q b) y = inl refl
 
 pub line-of : {o : State} {c : Call} {s t : State} → Small o c s t → (q : ℕ) → (queue t q ≡ queue s q) ⊎ Line c (queue s q) (queue t q)
 line-of (ticks e) y = inl refl
-line-of (tells x e) y = inl refl
+line-of (tells x z e) y = inl refl
 line-of (stops e) y = inl refl
 line-of (carries x) y = inl refl
 line-of (tasksFree x) y = inl refl
@@ -99,6 +99,7 @@ pub record Stays (c : Call) (s t : State) : Type 0 where
   pub clock : c .code ≢ TIMER → t .clock ≡ s .clock
   pub later : s .clock ≤ t .clock
   pub on : c .code ≢ SIGNAL → t .on ≡ s .on
+  pub signalled : c .code ≢ SIGNAL → t .signalled ≡ s .signalled
 
 stays-next : {c : Call} {s t u : State} → Stays c s t → Leaves c t u → Stays c s u
 stays-next a b =
@@ -106,15 +107,16 @@ stays-next a b =
       directory = b .directory ∙ a .directory;
       clock = λ n. ⊎-elim (λ e. e ∙ a .clock n) (λ e. absurd (n (e .0))) (b .clock);
       later = ⊎-elim (λ e. omega (arith, e, a .later)) (λ e. omega (arith, e .1, a .later)) (b .clock);
-      on = λ n. ⊎-elim (λ e. e ∙ a .on n) (λ e. absurd (n e)) (b .on);
+      on = λ n. ⊎-elim (λ e. e .0 ∙ a .on n) (λ e. absurd (n e)) (b .events);
+      signalled = λ n. ⊎-elim (λ e. e .1 ∙ a .signalled n) (λ e. absurd (n e)) (b .events);
     }
 
 stays-turn : {o : State} {c : Call} (s t u : State) → Stays c s t → Turn o c t u → Stays c s u
 stays-turn s t u a (small p) = stays-next a (leaves-numbers p)
-stays-turn s t u a (runs q k z f) = record { directory = a .directory; clock = a .clock; later = a .later; on = a .on }
+stays-turn s t u a (runs q k z f) = record { directory = a .directory; clock = a .clock; later = a .later; on = a .on; signalled = a .signalled }
 
 pub stays : {o : State} {c : Call} {s t : State} → Chain (Turn o c) s t → Stays c s t
-stays {o} {c} = carried (Stays c) (λ s. record { directory = refl; clock = λ n. refl; later = omega arith; on = λ n. refl }) stays-turn
+stays {o} {c} = carried (Stays c) (λ s. record { directory = refl; clock = λ n. refl; later = omega arith; on = λ n. refl; signalled = λ n. refl }) stays-turn
 
 -- ---- The processor: a call puts nobody on it, and one that needs no running task takes nobody off.
 pub record Puts (c : Call) (s t : State) : Type 0 where

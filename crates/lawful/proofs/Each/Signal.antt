@@ -1,4 +1,4 @@
--- SIGNAL: the events on change, and all event waiters are excused; each in turn is made ready or found asleep, until none is excused. By induction on the
+-- SIGNAL: the events on and signalled change, and all event waiters are excused; each in turn is made ready or found asleep, until none is excused. By induction on the
 -- queue as it was.
 use mathlib.Core.Bool.{Bool, true, false}
 use mathlib.Core.Path.{_≡_, refl, sym, ap, _∙_}
@@ -17,11 +17,11 @@ use Rattle.tables.specs.State.{State, eventQueue, channelQueue, coreQueue, task
 use Rattle.calls.specs.declared.Call.{Call}
 use Rattle.meaning.specs.Conditions.{enough}
 use Rattle.meaning.specs.Ready.{madeReady}
-use Rattle.meaning.specs.Services.{woken, signal}
-use Rattle.lawful.specs.Shape.{Shape, InHand}
+use Rattle.meaning.specs.Services.{woken, noted, signal}
+use Rattle.lawful.specs.Shape.{Events, Shape, InHand}
 use Rattle.words.specs.Counting.{bit}
 use Rattle.lawful.specs.Resting.{Asleep, Rest, Lawful, Settled}
-use Rattle.words.proofs.Bits.{fewer}
+use Rattle.words.proofs.Bits.{fewer, bit-le}
 use Rattle.lawful.proofs.Blocks.Still.{timed-on, shape-on}
 use Rattle.words.proofs.Counting.{one-same, one-other}
 use Rattle.words.proofs.Free.{added-same, added-other, dropped-same, dropped-other}
@@ -33,17 +33,17 @@ use Rattle.lawful.proofs.Ready.Resting.{rest-beside, rest-made}
 use Rattle.lawful.proofs.Each.Calls.{settled}
 
 -- ---- Fewer events on: no condition comes to hold.
-pub asleep-fewer : {s : State} {m : List ℕ} (c o : ℕ) → ((u : ℕ) → bit o u ≤ bit (s .on) u) → Asleep s m → Asleep (timed-on s c o) m
+pub asleep-fewer : {s : State} {m : List ℕ} (c o g : ℕ) → ((u : ℕ) → bit o u ≤ bit (s .on) u) → Asleep s m → Asleep (timed-on s c o g) m
 unfolding enough
-asleep-fewer {s} c o f a =
+asleep-fewer {s} c o g f a =
     record {
       asleep = λ y z n.
           let t = taskAt s y in
           lt-leb (t .count) (size (bitAnd (t .events) o)) (let l = leb-false (t .count) (size (bitAnd (t .events) (s .on))) (a .asleep y z n) in omega (arith, l, fewer (t .events) (s .on) o f));
     }
 
-pub rest-on : {s : State} {m : List ℕ} (c o : ℕ) → Asleep (timed-on s c o) m → Rest s [] → Rest (timed-on s c o) m
-rest-on c o a r =
+pub rest-on : {s : State} {m : List ℕ} (c o g : ℕ) → Asleep (timed-on s c o g) m → Rest s [] → Rest (timed-on s c o g) m
+rest-on c o g a r =
     record {
       asleep = a;
       stuck = λ level lo hi. record { stuck = r .stuck level lo hi .stuck };
@@ -53,11 +53,39 @@ rest-on c o a r =
 dropped-le : (w n u : ℕ) → bit (dropping w n) u ≤ bit w u
 dropped-le w n u = ⊎-elim (λ z. rw (z .1) (omega (arith, dropped-same w n))) (λ z. omega (arith, dropped-other w n u (z .1))) (tested u n)
 
+added-ge : (w n u : ℕ) → bit w u ≤ bit (adding w n) u
+added-ge w n u = ⊎-elim (λ z. rw (z .1) (omega (arith, added-same w n, bit-le w n))) (λ z. omega (arith, added-other w n u (z .1))) (tested u n)
+
+added-le : (w n d : ℕ) → bit d n ≡ 1 → ((v : ℕ) → bit w v ≤ bit d v) → (u : ℕ) → bit (adding w n) u ≤ bit d u
+added-le w n d e f u =
+    ⊎-elim (λ z. rw (z .1) (omega (arith, added-same w n, e))) (λ z. omega (arith, added-other w n u (z .1), f u)) (tested u n)
+
+-- ---- An event that is signalled: it has been, and it is on or off. "an event that is on has been signalled, and a signalled one is defined" goes on.
+module _ {d o m : ℕ} (n : ℕ) (e : Events d o m) (k : bit d n ≡ 1) where
+  pub events-on : Events d (adding o n) (adding m n)
+  events-on =
+      record {
+        on = added-le o n (adding m n) (added-same m n) (λ v. omega (arith, e .on v, added-ge m n v));
+        signalled = added-le m n d k (e .signalled);
+      }
+
+  events-off : Events d (dropping o n) (adding m n)
+  events-off = record { on = λ v. omega (arith, dropped-le o n v, e .on v, added-ge m n v); signalled = added-le m n d k (e .signalled) }
+
+-- the state in which the waiters are looked at, and the one that off leaves
+abbrev pub told-on : State → ℕ → State
+told-on s n = withOn (noted s n) (adding (s .on) n)
+
+abbrev pub told-off : State → ℕ → State
+told-off s n = withOn (noted s n) (dropping (s .on) n)
+
 -- ---- SIGNAL off.
-pub off-keeps : {s : State} (n : ℕ) → Lawful s → Settled (withOn s (dropping (s .on) n))
-off-keeps {s} n g =
-    settled (shape-on (s .clock) (dropping (s .on) n) (g .shape) (λ v. omega (arith, dropped-le (s .on) n v, g .shape .blank .on v)))
-    (rest-on (s .clock) (dropping (s .on) n) (asleep-fewer (s .clock) (dropping (s .on) n) (dropped-le (s .on) n) (g .rest .asleep)) (g .rest))
+pub off-keeps : {s : State} (n : ℕ) → bit (s .directory .defined) n ≡ 1 → Lawful s → Settled (told-off s n)
+off-keeps {s} n d g =
+    let o = dropping (s .on) n in
+    let m = adding (s .signalled) n in
+    settled (shape-on (s .clock) o m (g .shape) (events-off n (g .shape .blank .events) d))
+    (rest-on (s .clock) o m (asleep-fewer (s .clock) o m (dropped-le (s .on) n) (g .rest .asleep)) (g .rest))
 
 -- ---- Waking: the walk over those of a queue that are left.
 pub record Walk (q : ℕ) (l : List ℕ) (s : State) (m : List ℕ) : Type 0 where
@@ -133,24 +161,21 @@ walked [] s w = w
 walked (a ∷ l) s w = walked l (woken a s) (walk-step w)
 
 -- ---- SIGNAL on.
-pub added-le : (w n d u : ℕ) → bit d n ≡ 1 → ((v : ℕ) → bit w v ≤ bit d v) → bit (adding w n) u ≤ bit d u
-added-le w n d u e f =
-    ⊎-elim (λ z. rw (z .1) (omega (arith, added-same w n, e))) (λ z. omega (arith, added-other w n u (z .1), f u)) (tested u n)
-
-pub signal-walk : {s : State} (n : ℕ) → bit (s .directory .defined) n ≡ 1 → Lawful s → Walk eventQueue (queue s eventQueue) (withOn s (adding (s .on) n)) (queue s eventQueue)
+pub signal-walk : {s : State} (n : ℕ) → bit (s .directory .defined) n ≡ 1 → Lawful s → Walk eventQueue (queue s eventQueue) (told-on s n) (queue s eventQueue)
 signal-walk {s} n d g =
     let o = adding (s .on) n in
+    let m = adding (s .signalled) n in
     record {
-      shape = shape-on (s .clock) o (g .shape) (λ v. added-le (s .on) n (s .directory .defined) v d (g .shape .blank .on));
-      rest = rest-on (s .clock) o (record { asleep = λ y c z. absurd (omega (arith, c, z)) }) (g .rest);
+      shape = shape-on (s .clock) o m (g .shape) (events-on n (g .shape .blank .events) d);
+      rest = rest-on (s .clock) o m (record { asleep = λ y c z. absurd (omega (arith, c, z)) }) (g .rest);
       left = λ y. omega arith;
     }
 
 pub on-keeps : {s : State} (n : ℕ) → bit (s .directory .defined) n ≡ 1 → Lawful s
-    → Settled (each woken (queue s eventQueue) (withOn s (adding (s .on) n)))
-on-keeps {s} n d g = let w = walked (queue s eventQueue) (withOn s (adding (s .on) n)) (signal-walk n d g) in settled (w .shape) (w .rest)
+    → Settled (each woken (queue s eventQueue) (told-on s n))
+on-keeps {s} n d g = let w = walked (queue s eventQueue) (told-on s n) (signal-walk n d g) in settled (w .shape) (w .rest)
 
 pub signal-keeps : {s : State} (c : Call) → Lawful s → bit (s .directory .defined) (c .number) ≡ 1 → Settled (signal s c .state)
 unfolding signal
 signal-keeps {s} c g d =
-    ⊎-elim (λ z. rw (z .0) (on-keeps (c .number) d g)) (λ z. rw (z .0) (off-keeps (c .number) g)) (tested (c .value) 1)
+    ⊎-elim (λ z. rw (z .0) (on-keeps (c .number) d g)) (λ z. rw (z .0) (off-keeps (c .number) d g)) (tested (c .value) 1)

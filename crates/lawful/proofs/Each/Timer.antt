@@ -82,8 +82,8 @@ same-asleep s c a = record { asleep = a .asleep }
 pub timer-walk : {s : State} → Lawful s → Walk timeQueue (queue s timeQueue) (withClock s (s .clock + 1)) []
 timer-walk {s} g =
     record {
-      shape = shape-on (s .clock + 1) (s .on) (g .shape) (g .shape .blank .on);
-      rest = rest-on (s .clock + 1) (s .on) (same-asleep s (s .clock + 1) (g .rest .asleep)) (g .rest);
+      shape = shape-on (s .clock + 1) (s .on) (s .signalled) (g .shape) (g .shape .blank .events);
+      rest = rest-on (s .clock + 1) (s .on) (s .signalled) (same-asleep s (s .clock + 1) (g .rest .asleep)) (g .rest);
       left = λ y. omega arith;
     }
 

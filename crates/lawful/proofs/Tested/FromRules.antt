@@ -20,7 +20,7 @@ use Rattle.tables.specs.State.{State, eventQueue, timeQueue, channelQueue, task
 use Rattle.meaning.specs.Conditions.{undefinedIn}
 use Rattle.meaning.specs.Finish.{pendingOf, pending}
 use Rattle.meaning.specs.Channel.{channelLevel}
-use Rattle.meaning.specs.Rules.{onDefined, tasksInPlace, requestsInPlace, queuesInOrder, coreNeeded, owned, checksPending, endingPending, queueFor}
+use Rattle.meaning.specs.Rules.{onSignalled, signalledDefined, tasksInPlace, requestsInPlace, queuesInOrder, coreNeeded, owned, checksPending, endingPending, queueFor}
 use Rattle.meaning.proofs.Rules.{Keeps}
 use Rattle.meaning.proofs.Parts.{taskRange, requestRange, taskStands, requestStands, taskFree, requestFree, taskClear, requestClear, Ranges, ranges, Sets, sets, Clears, clears, task-range}
 use Rattle.lawful.specs.Shape.{placeOf, Fields, Stands, Carried, Sizes, Blank, Shape}
@@ -43,13 +43,13 @@ use Rattle.words.proofs.Bits.{bit-of, and-within}
 
 module _ (s : State) (z : Sizes s) (low : (level : ℕ) → poolAt s level < 2 ^ 64) (u : Apart (s .queues)) (r : Keeps s) where
   range : Ranges s
-  range = ranges s (r .inRange)
+  range = ranges s (r .each .inRange)
 
   free : Sets s
-  free = sets s (r .freeSets)
+  free = sets s (r .each .freeSets)
 
   clear : Clears s
-  clear = clears s (r .fieldsClear)
+  clear = clears s (r .each .fieldsClear)
 
   orders : (upBy (λ k. taskAt s k .time) (queue s timeQueue) ≡ true) × (upBy (channelLevel s) (queue s channelQueue) ≡ true)
   unfolding queuesInOrder
@@ -62,7 +62,7 @@ module _ (s : State) (z : Sizes s) (low : (level : ℕ) → poolAt s level < 2 ^
   no-request = request-blank (requestAt s 0) (clear .request)
 
   blank : Blank s
-  unfolding onDefined undefinedIn
+  unfolding onSignalled signalledDefined undefinedIn
   blank =
       record {
         block = no-task;
@@ -74,14 +74,18 @@ module _ (s : State) (z : Sizes s) (low : (level : ℕ) → poolAt s level < 2 ^
         freeRequests-none = bit-of (s .freeRequests) 0 (not-true _ (free .freeRequests-none));
         running = leb-true _ _ (range .running);
         channel = leb-true _ _ (range .channel);
-        on = λ v. and-within v (s .on) (s .directory .defined) (eqb-true _ _ (not-false _ (not-true _ (r .onDefined))));
+        events =
+            record {
+              on = λ v. and-within v (s .on) (s .signalled) (eqb-true _ _ (r .each .onSignalled));
+              signalled = λ v. and-within v (s .signalled) (s .directory .defined) (eqb-true _ _ (not-false _ (not-true _ (r .each .signalledDefined))));
+            };
       }
 
   -- ---- One task block.
   module _ (k : ℕ) (a : 1 ≤ k) (b : k ≤ taskBlocks) where
     placed : taskStands s k ≡ true
     unfolding tasksInPlace
-    placed = all-to (taskStands s) taskBlocks (r .tasksInPlace) k a b
+    placed = all-to (taskStands s) taskBlocks (r .each .tasksInPlace) k a b
 
     in-queue : (q : ℕ) → q < QUEUES → count k (queue s q) ≡ one (queueFor (taskAt s k .place) (levelOf s k)) q
     in-queue = task-placed s k u placed .0 .only
@@ -89,7 +93,7 @@ module _ (s : State) (z : Sizes s) (low : (level : ℕ) → poolAt s level < 2 ^
     fields : Fields (s .directory) (taskAt s k .place) (taskAt s k)
     unfolding coreNeeded queueFor
     fields =
-        fields-of s k (all-to (taskRange s) taskBlocks (range .tasks) k a b) (all-to (taskClear s) taskBlocks (clear .tasks) k a b) (all-to (neededAt s) taskBlocks (r .coreNeeded) k a b)
+        fields-of s k (all-to (taskRange s) taskBlocks (range .tasks) k a b) (all-to (taskClear s) taskBlocks (clear .tasks) k a b) (all-to (neededAt s) taskBlocks (r .each .coreNeeded) k a b)
         (λ i. passes-of s (r .eventsPass) k
         (let w = rw i at (in-queue eventQueue (omega arith)) in omega (arith, w, one-same 0 0 refl)))
 
@@ -101,7 +105,7 @@ module _ (s : State) (z : Sizes s) (low : (level : ℕ) → poolAt s level < 2 ^
     unfolding checksPending
     checked i =
         implied (eqb (taskAt s k .place) InCheck) (pendingOf s k (taskAt s k .request))
-        (all-to (λ k. eqb (taskAt s k .place) InCheck implies pendingOf s k (taskAt s k .request)) taskBlocks (r .checksPending) k a b) (eq-eqb _ _ i)
+        (all-to (λ k. eqb (taskAt s k .place) InCheck implies pendingOf s k (taskAt s k .request)) taskBlocks (r .each .checksPending) k a b) (eq-eqb _ _ i)
 
     request-some : taskAt s k .place ≡ InCheck → 1 ≤ taskAt s k .request
     request-some i =
@@ -118,7 +122,7 @@ module _ (s : State) (z : Sizes s) (low : (level : ℕ) → poolAt s level < 2 ^
           freeTasks = set-of (s .freeTasks) (taskAt s k .place) Free k (all-to (taskFree s) taskBlocks (free .tasks) k a b);
           checks = λ i. pending-of s k (taskAt s k .request) (request-some i) request-low (checked i);
           ends = λ i. pending-some s k (implied (eqb (taskAt s k .place) Ending) (pending s k)
-              (all-to (λ k. eqb (taskAt s k .place) Ending implies pending s k) taskBlocks (r .endingPending) k a b) (eq-eqb _ _ i));
+              (all-to (λ k. eqb (taskAt s k .place) Ending implies pending s k) taskBlocks (r .each .endingPending) k a b) (eq-eqb _ _ i));
         })
 
   -- ---- One request block.
@@ -126,7 +130,7 @@ module _ (s : State) (z : Sizes s) (low : (level : ℕ) → poolAt s level < 2 ^
   unfolding requestsInPlace owned
   carried q a b =
       carried-of s q no-task u (all-to (requestRange s) requestBlocks (range .requests) q a b) (all-to (requestClear s) requestBlocks (clear .requests) q a b)
-      (all-to (requestStands s) requestBlocks (r .requestsInPlace) q a b) (all-to (requestFree s) requestBlocks (free .requests) q a b) (all-to (ownedAt s) requestBlocks (r .owned) q a b)
+      (all-to (requestStands s) requestBlocks (r .each .requestsInPlace) q a b) (all-to (requestFree s) requestBlocks (free .requests) q a b) (all-to (ownedAt s) requestBlocks (r .each .owned) q a b)
 
   inside : (k : ℕ) → k < length (s .tasks) → taskAt s k .core ≡ 1 → taskAt s k .start + unitsOf s k ≤ 64
   inside k l c =
@@ -140,7 +144,7 @@ module _ (s : State) (z : Sizes s) (low : (level : ℕ) → poolAt s level < 2 ^
   shape =
       record {
         sizes = z;
-        directory = passing (s .directory) (r .directoryPasses);
+        directory = passing (s .directory) (r .each .directoryPasses);
         blank = blank;
         tasks = stands;
         requests = carried;

@@ -13,9 +13,9 @@ use Rattle.tables.specs.State.{State, taskAt, poolAt, levelOf}
 use Rattle.meaning.specs.Conditions.{undefinedIn}
 use Rattle.meaning.specs.Finish.{pendingOf, pending}
 use Rattle.meaning.specs.Rules as rules
-use Rattle.meaning.proofs.Rules.{Keeps}
+use Rattle.meaning.proofs.Rules.{KeepsEach, Keeps}
 use Rattle.meaning.proofs.Parts.{taskRange, requestRange, taskStands, requestStands, taskFree, requestFree, taskClear, requestClear, Ranges, in-range, Sets, free-sets, Clears, all-clear}
-use Rattle.lawful.specs.Shape.{children, Stands}
+use Rattle.lawful.specs.Shape.{children, Stands, Events}
 use Rattle.words.specs.Counting.{one, bit}
 use Rattle.lawful.specs.Resting.{Lawful}
 use Rattle.lawful.proofs.Blocks.Shape.{rest-place}
@@ -56,10 +56,21 @@ module _ {s : State} (g : Lawful s) where
         requests = to-all (requestRange s) requestBlocks (λ r a b. of-request-range s r (g .shape .requests r a b));
       }
 
-  -- "events on are defined"
+  -- "events on are defined"; "an event that is on has been signalled, and a signalled one is defined"
+  events : Events (s .directory .defined) (s .on) (s .signalled)
+  events = g .shape .blank .events
+
   on-defined : rules.onDefined s ≡ true
   unfolding rules.onDefined undefinedIn
-  on-defined = ap not (ap not (eq-eqb _ _ (of-within (s .on) (s .directory .defined) (g .shape .blank .on))))
+  on-defined = ap not (ap not (eq-eqb _ _ (of-within (s .on) (s .directory .defined) (λ v. omega (arith, events .on v, events .signalled v)))))
+
+  on-signalled : rules.onSignalled s ≡ true
+  unfolding rules.onSignalled
+  on-signalled = eq-eqb _ _ (of-within (s .on) (s .signalled) (events .on))
+
+  signalled-defined : rules.signalledDefined s ≡ true
+  unfolding rules.signalledDefined undefinedIn
+  signalled-defined = ap not (ap not (eq-eqb _ _ (of-within (s .signalled) (s .directory .defined) (events .signalled))))
 
   -- the places of blocks, and the free ones
   tasks-placed : rules.tasksInPlace s ≡ true
@@ -123,18 +134,30 @@ module _ {s : State} (g : Lawful s) where
   all-linked : (p : ℕ) → 1 ≤ p → p ≤ taskBlocks → children (s .tasks) p ≡ one (taskAt s p .place) InLink
   all-linked p a b = omega (arith, g .shape .links p a b, one-other p 0 (λ i. omega (arith, i, a)), ap (λ (x : ℕ). one x InLink) (rest-place s p))
 
+  each : KeepsEach s
+  each =
+      record {
+        directoryPasses = g .shape .directory .passes;
+        inRange = in-range s range;
+        onDefined = on-defined;
+        onSignalled = on-signalled;
+        signalledDefined = signalled-defined;
+        tasksInPlace = tasks-placed;
+        requestsInPlace = requests-placed;
+        freeSets = free-sets s free;
+        fieldsClear = all-clear s clear;
+        coreNeeded = core-needed;
+        owned = all-owned;
+        checksPending = checks;
+        endingPending = endings;
+      }
+
   pub lawful-rules : Keeps s
   lawful-rules =
       let b = g .shape .blank .block in
       let n = g .shape .sizes .tasks in
       record {
-        directoryPasses = g .shape .directory .passes;
-        inRange = in-range s range;
-        onDefined = on-defined;
-        tasksInPlace = tasks-placed;
-        requestsInPlace = requests-placed;
-        freeSets = free-sets s free;
-        fieldsClear = all-clear s clear;
+        each = each;
         coreHeld = of-core s n b (g .shape .core);
         chainsEnd = of-ranked s (g .shape);
         idleOnlyIfNoneReady = of-busy s (g .busy);
@@ -142,11 +165,7 @@ module _ {s : State} (g : Lawful s) where
         coreWaits = of-stuck (g .shape) (g .rest .stuck);
         queuesInOrder = in-order;
         ofTheirLevel = of-levels (g .shape);
-        coreNeeded = core-needed;
         eventsPass = of-passes (g .shape);
         linked = of-links s n b all-linked;
-        owned = all-owned;
-        checksPending = checks;
-        endingPending = endings;
         channelBusy = of-flowing s (g .rest .flowing);
       }

@@ -2,7 +2,7 @@
 use mathlib.Core.Bool.{true, false, true≢false}
 use mathlib.Core.Path.{_≡_, refl, sym, ap, _∙_}
 use mathlib.Core.Logic.{_≢_, _⊎_, ⊎-elim}
-use mathlib.Core.List.{List, [], _∷_}
+use mathlib.Core.List.{List, [], _∷_, _++_}
 use Prim.Native.Nat.{ℕ}
 use lib.Dec.{eqb}
 use borrow.Author.Tests.{eq-eqb, ne-eqb}
@@ -21,7 +21,7 @@ use Rattle.calls.specs.Calls.{TIMER, IO-DONE, PROGRAM-CHECK, OPERATOR-START, ca
 use Rattle.meaning.specs.Refusals.{refusals}
 use Rattle.meaning.specs.Services.{effect}
 use Rattle.meaning.specs.Step.{refused, accepted, stepOf, tablesOf, lineOf, loadLine}
-use Rattle.lawful.specs.Reached.{Reached, load, step, First}
+use Rattle.lawful.specs.Reached.{Reached, load, step, afterCalls, First}
 use Rattle.lawful.proofs.Ready.Newly.{newly-first}
 use Rattle.lawful.proofs.Chained.Chain.{turn-chain}
 use Rattle.lawful.proofs.Chained.Stays.{stays, newly, undisturbed}
@@ -92,3 +92,14 @@ module _ (image : List ℕ) where
   pub reached-directory : {t : Tables} → Reached image t → t .directory ≡ loadOf image .directory
   reached-directory (load e) = loaded-directory e
   reached-directory (step {t} bytes r) = step-directory t bytes ∙ reached-directory r
+
+-- ---- Calls, one after the other.
+pub after-append : (t : Tables) (before behind : List (List ℕ)) → afterCalls t (before ++ behind) ≡ afterCalls (afterCalls t before) behind
+unfolding afterCalls
+after-append t [] behind = refl
+after-append t (b ∷ before) behind = after-append (stepOf t b .tables) before behind
+
+pub after-reached : (image : List ℕ) (calls : List (List ℕ)) {t : Tables} → Reached image t → Reached image (afterCalls t calls)
+unfolding afterCalls
+after-reached image [] r = r
+after-reached image (b ∷ calls) r = after-reached image calls (step b r)

@@ -10,10 +10,10 @@ use lib.Seq.{getD-set-other}
 use lib.Dec.{eqb, leb, ltb}
 use Rattle.threads.specs.Threads.{hd, count}
 use Rattle.words.proofs.Truth.{tested, both}
-use Rattle.words.specs.Words.{if_then_else_, _among_, isEmpty, oneTo, each, adding, least}
+use Rattle.words.specs.Words.{if_then_else_, _among_, isEmpty, oneTo, each, least}
 use Rattle.tables.specs.declared.Task.{Task}
 use Rattle.tables.specs.Blocks.{Ready, InLink, InCheck, Ending, Done, HoldsRun, noTask, newTask, moving, awaitingEvents, awaitingTime, awaitingRequest, withParent, requestBlocks}
-use Rattle.tables.specs.State.{State, eventQueue, coreQueue, readyQueue, timeQueue, channelQueue, withClock, withOn, withRunning, withTask, withQueue, taskAt, requestAt, queue, levelOf, leaving}
+use Rattle.tables.specs.State.{State, eventQueue, coreQueue, readyQueue, timeQueue, channelQueue, withClock, withRunning, withTask, withQueue, taskAt, requestAt, queue, levelOf, leaving}
 use Rattle.calls.specs.declared.Call.{Call}
 use Rattle.calls.specs.Calls.{needsTask}
 use Rattle.meaning.specs.Conditions.{enough, dueOf, holds, awaitsEvents, awaitsTime, inTime, waiting}
@@ -40,7 +40,7 @@ use Rattle.lawful.proofs.Blocks.Unlink.{unlink-rest}
 use Rattle.lawful.proofs.Each.Abort.{aborted-none, aborted-step, upward-zero, alone, child, grabbed, abort-next, starts-abort}
 use Rattle.lawful.proofs.Each.Calls.{new, new-apart, rest-stopped}
 use Rattle.lawful.proofs.Each.Link.{linked}
-use Rattle.lawful.proofs.Each.Signal.{Walk, walk-step, signal-walk}
+use Rattle.lawful.proofs.Each.Signal.{Walk, walk-step, told-on, signal-walk}
 use Rattle.lawful.proofs.Each.Timer.{walk-tick, timer-walk, worst}
 use Rattle.lawful.proofs.Each.IoDone.{off, owner, freed-hand, freed-rest, last-quiet, done-first}
 use Rattle.lawful.proofs.Told.Turns.{Turns, quiet, stays, then-turns}
@@ -254,7 +254,7 @@ module _ {s : State} (c : Call) (g : Lawful s) where
   unfolding signal
   signal-turns d =
       chosen (eqb (c .value) 1)
-      (λ e. then-turns {t = withOn s (adding (s .on) (c .number))} (untouched refl refl refl) (events-turns (queue s eventQueue) _ (signal-walk (c .number) d g)))
+      (λ e. then-turns {t = told-on s (c .number)} (untouched refl refl refl) (events-turns (queue s eventQueue) _ (signal-walk (c .number) d g)))
       (λ e. untouched refl refl refl)
 
   timer-turns : Turns s (timer s c .state)

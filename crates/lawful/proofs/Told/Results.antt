@@ -1,6 +1,6 @@
--- "no accepted answer carries a zero result": a block that is given is not block 0, and the other calls answer 1 or 2. By the list of deeds. Of the rules that the tables pass, that the
+-- "no accepted answer carries a zero result": a block that is given is not block 0, and the other calls answer 1, 2 or 3. By the list of deeds. Of the rules that the tables pass, that the
 -- free blocks are sets of blocks is enough.
-use mathlib.Core.Bool.{true, false, true≢false}
+use mathlib.Core.Bool.{Bool, true, false, not, true≢false}
 use mathlib.Core.Path.{_≡_, sym, _∙_}
 use mathlib.Core.Logic.{⊎-elim}
 use mathlib.Core.List.{List}
@@ -8,10 +8,10 @@ use Prim.Native.Nat.{ℕ, _≤_}
 use native.Mathlib.Omega.{arith}
 use lib.Dec.{eqb}
 use borrow.Author.Tests.{eqb-false, ltb-true, not-true, not-false}
-use Rattle.words.specs.Words.{_among_, allTrue, has}
+use Rattle.words.specs.Words.{if_then_else_, _among_, allTrue, has}
 use Rattle.words.specs.Rows.{firstOf}
 use Rattle.words.proofs.Rows.{testOf}
-use Rattle.words.proofs.Truth.{true-or-false, both, and-fails}
+use Rattle.words.proofs.Truth.{both, and-fails}
 use Rattle.tables.specs.declared.Tables.{Tables}
 use Rattle.tables.specs.State.{State, read}
 use Rattle.calls.specs.declared.Call.{Call}
@@ -28,7 +28,12 @@ use Rattle.lawful.proofs.Tested.Accepted.{not-by, rows-left}
 
 tells-some : (s : State) (c : Call) → 1 ≤ testEvent s c .result
 unfolding testEvent
-tells-some s c = ⊎-elim (λ (h : has (s .on) (c .number) ≡ true). rw h (omega arith)) (λ (h : has (s .on) (c .number) ≡ false). rw h (omega arith)) (true-or-false (has (s .on) (c .number)))
+tells-some s c = go (has (s .signalled) (c .number)) (has (s .on) (c .number))
+  where
+    go : (m o : Bool) → 1 ≤ (if not m then 3 else if o then 2 else 1)
+    go false o = omega arith
+    go true true = omega arith
+    go true false = omega arith
 
 module _ (s : State) (c : Call) (e : firstOf (callRows s c) ≡ 0) (f : freeSets s ≡ true) where
   starts-some : starts c ≡ true → 1 ≤ operatorStart s c .result
@@ -69,4 +74,4 @@ unfolding rulesHold
 result-some t bytes e =
     let left = rows-left t bytes e in
     let b = both (pointersSound (t .threads)) (allTrue (stateRules (read t))) (left .rules) in
-    each (read t) (callOf bytes) (left .rows) (all-rules (b .1) .freeSets)
+    each (read t) (callOf bytes) (left .rows) (all-rules (b .1) .each .freeSets)

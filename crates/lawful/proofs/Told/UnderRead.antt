@@ -9,14 +9,14 @@ use native.Mathlib.Omega.{arith}
 use lib.ListN.{getD}
 use lib.Dec.{eqb, ltb}
 use Rattle.words.proofs.Truth.{tested}
-use Rattle.words.specs.Words.{adding, least, _among_}
+use Rattle.words.specs.Words.{least, _among_}
 use Rattle.words.specs.Counting.{bit}
 use Rattle.words.proofs.Counting.{one-same, one-other, one-eq}
 use Rattle.words.proofs.Free.{least-in}
 use Rattle.image.specs.Directory.{noEntry}
 use Rattle.tables.specs.declared.Task.{Task}
 use Rattle.tables.specs.Blocks.{Free, Ready, InLink, InCheck, Ending, OnChannel, Done, noTask, newTask, awaitingRequest, withParent, taskBlocks}
-use Rattle.tables.specs.State.{State, eventQueue, timeQueue, withClock, withOn, withRunning, taskAt, requestAt, queue, levelOf}
+use Rattle.tables.specs.State.{State, eventQueue, timeQueue, withClock, withRunning, taskAt, requestAt, queue, levelOf}
 use Rattle.calls.specs.declared.Call.{Call}
 use Rattle.calls.specs.Calls.{IO-DONE, needsTask}
 use Rattle.meaning.specs.Conditions.{holds}
@@ -37,6 +37,7 @@ use Rattle.lawful.proofs.Tested.Pendings.{quiet-of, some-pending}
 use Rattle.lawful.proofs.Each.IoDone.{off, owner, done-first, transferred-keeps}
 use Rattle.lawful.proofs.Each.Abort.{aborted-none, aborted-step, upward-zero, abort-next, starts-abort}
 use Rattle.lawful.proofs.Told.Others.{freed-free}
+use Rattle.lawful.proofs.Each.Signal.{told-on}
 use Rattle.lawful.proofs.Told.Pages.{Same, Holds, Out, still-holds, then-same, either, untouched, block-same, other-same, made-same, each-same, woken-same, timely-same, waiting-same, stopped-same, filled-tasks, filled-same, freed-same, dispatched-same, back-same, finished-same, ended-same, ended-asks}
 
 -- ---- The abort.
@@ -120,7 +121,7 @@ module _ {s : State} (g : Lawful s) {y i : ℕ} (h : Holds y s) (p : Pending (s 
     signal-same : Same y s (signal s c .state)
     unfolding signal
     signal-same =
-        either (eqb (c .value) 1) (λ e. then-same {t = withOn s (adding (s .on) (c .number))} (untouched refl) (each-same woken woken-same (queue s eventQueue) _ h)) (λ e. untouched refl)
+        either (eqb (c .value) 1) (λ e. then-same {t = told-on s (c .number)} (untouched refl) (each-same woken woken-same (queue s eventQueue) _ h)) (λ e. untouched refl)
 
     timer-same : Same y s (timer s c .state)
     unfolding timer

@@ -6,9 +6,9 @@ use Rattle.words.proofs.Truth.{both}
 use Rattle.fields.proofs.Slots.{no-entry, asked, not-asked}
 use Rattle.words.proofs.OneTo.{gather-start, gather-next, gather-end}
 use Rattle.fields.specs.Blocks.{pends, taskPasses}
+use Rattle.tables.proofs.Lengths.{entries-long, requests-long}
 use Rattle.tables.specs.State.{read, taskAt, requestAt, entryFor}
 use Rattle.words.specs.Words.{_implies_, oneTo, allOf}
-use lib.ListN.{length-map}
 use lib.Dec.{eqb, ltb}
 use native.Mathlib.Omega.{arith}
 use Prim.Native.Nat.{_-_, _+_, _≤_}
@@ -114,12 +114,12 @@ loop-again-2 c =
     let e : c .before .before .before .if2 .e ≡ entryFor s (l .k + 1) =
     ⊎-elim (λ w. w .3)
     (λ w. w .1 ∙ c .before .before .before .before .before .no-entry .ensures
-    ∙ no-entry (s .directory .entries) (x .program) (omega (arith, simp length-map at (a .good .0 .1 .1 .0 .1 .1 .1 .0 .1 .0 .1))))
+    ∙ no-entry (s .directory .entries) (x .program) (omega (arith, entries-long (a .args .t1) _ (a .good .0))))
     (c .before .before .before .if2 .came) in
     let own : (eqb (x .place) 7 implies (c .before .if3 .own)) ≡ (eqb (x .place) 7 implies pends (l .k + 1) (requestAt s (x .request))) =
     ⊎-elim (λ w. asked (eqb (x .place) 7) (w .3 ∙ w .2 .ensures))
     (λ w. not-asked (s .requests) (l .k + 1) (x .request) (eqb (x .place) 7) (w .1)
-    (omega (arith, simp length-map at (a .good .0 .1 .1 .1 .1 .1 .1 .1 .1 .1 .0 .1 .0 .1))) (w .0 .left))
+    (omega (arith, requests-long (a .args .t1) _ (a .good .0))) (w .0 .left))
     (c .before .if3 .came) in (
       search needs,
       gather-next (taskPasses s) (l .k) (l .right) _ (l .inv .1)

@@ -11,16 +11,25 @@ cast-adding : tie.Need-cast-adding
 cast-adding c = search needs
 
 adding-requires : tie.Need-adding-requires
-adding-requires c κs = omega (arith, c .before .before .before .pre .1)
+adding-requires c κs = search needs
+
+cast-adding-2 : tie.Need-cast-adding-2
+cast-adding-2 c = search needs
+
+adding-requires-2 : tie.Need-adding-requires-2
+adding-requires-2 c κs = search needs
 
 wake-events-requires : tie.Need-wake-events-requires
 wake-events-requires c κs =
-    let p = c .before .before .before .before .pre in
-    (p .0 .pointers, rw (c .adding .ensures) (on-shape _ (p .0 .state .shape) (p .2)))
+    let marked = c .before .before .before .before in
+    let p = marked .before .before .pre in
+    (p .0 .pointers, rw (c .adding2 .ensures, marked .adding .ensures) (on-shape _ (p .0 .state .shape) (p .2)))
 
 returns : tie.Need-returns
 unfolding signal
-returns c = rw (eq-eqb _ _ (c .before .before .before .if1 .taken), ← c .before .adding .ensures) (c .wake-events .ensures)
+returns c =
+    let taken = c .before .before .before in
+    rw (eq-eqb _ _ (taken .if1 .taken), ← c .before .adding2 .ensures, ← taken .before .before .adding .ensures) (c .wake-events .ensures)
 
 cast-dropping : tie.Need-cast-dropping
 cast-dropping c = search needs
@@ -30,7 +39,10 @@ dropping-requires c κs = search needs
 
 returns-2 : tie.Need-returns-2
 unfolding signal
-returns-2 c = record { sound = c .before .before .before .before .pre .0 .pointers; reads = rw (ne-eqb _ _ (c .before .before .if1 .left), c .dropping .ensures) }
+returns-2 c =
+    let left = c .before .before in
+    let marked = left .before .before in
+    record { sound = marked .before .before .pre .0 .pointers; reads = rw (ne-eqb _ _ (left .if1 .left), ← c .dropping .ensures, ← marked .adding .ensures) }
 
 pub signal-spec : {M : Type 1} → statement M
 signal-spec =
@@ -38,6 +50,8 @@ signal-spec =
     (tie.spec
     cast-adding
     adding-requires
+    cast-adding-2
+    adding-requires-2
     wake-events-requires
     returns
     cast-dropping

@@ -1,6 +1,5 @@
--- `events::test_event` meets its contract: the event is on, or it is off.
+-- `events::test_event` meets its contract: the event was never signalled, or it is on, or it is off.
 use borrow.Author.Needs.{needs}
-use mathlib.Core.Path.{sym, _∙_}
 use Rattle.meaning.specs.Services.{testEvent}
 use Rattle.services.proofs.events.test_event.Statement.{statement}
 use Rattle.services.proofs.events.test_event.Tie as tie
@@ -13,11 +12,25 @@ has-requires c κs = search needs
 
 returns : tie.Need-returns
 unfolding testEvent
-returns c = rw (sym (c .before .has .ensures) ∙ c .if1 .taken)
+returns c = rw (← c .before .has .ensures, c .if1 .taken)
+
+cast-has-2 : tie.Need-cast-has-2
+cast-has-2 c = search needs
+
+has-requires-2 : tie.Need-has-requires-2
+has-requires-2 c κs = search needs
 
 returns-2 : tie.Need-returns-2
 unfolding testEvent
-returns-2 c = rw (sym (c .before .has .ensures) ∙ c .if1 .left)
+returns-2 c =
+    let signalled = c .before .before .before in
+    rw (← signalled .before .has .ensures, signalled .if1 .left, ← c .before .has2 .ensures, c .if2 .taken)
+
+returns-3 : tie.Need-returns-3
+unfolding testEvent
+returns-3 c =
+    let signalled = c .before .before .before in
+    rw (← signalled .before .has .ensures, signalled .if1 .left, ← c .before .has2 .ensures, c .if2 .left)
 
 pub test-event-spec : {M : Type 1} → statement M
 test-event-spec =
@@ -26,4 +39,7 @@ test-event-spec =
     cast-has
     has-requires
     returns
-    returns-2)
+    cast-has-2
+    has-requires-2
+    returns-2
+    returns-3)
