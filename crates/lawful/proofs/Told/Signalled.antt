@@ -72,7 +72,7 @@ module _ (e : ℕ) where
       go [] bytes behind i h = n (rw (head-eq-of-cons-eq i) h)
       go (x ∷ before) bytes behind i h = m .none before bytes behind (tail-eq-of-cons-eq i) (rw (head-eq-of-cons-eq i) h)
 
-  pub history : (calls : List (List ℕ)) (t : Tables) → Unsignalled e t calls ⊎ ((v : ℕ) × LastSignalled e v t calls)
+  history : (calls : List (List ℕ)) (t : Tables) → Unsignalled e t calls ⊎ ((v : ℕ) × LastSignalled e v t calls)
   unfolding afterCalls
   history [] t = inl no-calls
   history (b ∷ calls) t =
