@@ -1,3 +1,4 @@
 pub mod Coded
 pub mod Whole
 pub mod Unique
+pub mod Known

@@ -1,9 +1,9 @@
 -- `events::signal` meets its contract: on, and all waiters are looked at; or off.
 use borrow.Author.Needs.{needs}
 use native.Mathlib.Omega.{arith}
-use borrow.Author.Tests.{eq-eqb, ne-eqb}
-use Rattle.meaning.specs.Services.{signal}
+use Rattle.tables.specs.State.{read}
 use Rattle.tasking.proofs.Ticks.{on-shape}
+use Rattle.services.proofs.Known.{on-leaves, off-leaves}
 use Rattle.services.proofs.events.signal.Statement.{statement}
 use Rattle.services.proofs.events.signal.Tie as tie
 
@@ -26,10 +26,11 @@ wake-events-requires c κs =
     (p .0 .pointers, rw (c .adding2 .ensures, marked .adding .ensures) (on-shape _ (p .0 .state .shape) (p .2)))
 
 returns : tie.Need-returns
-unfolding signal
 returns c =
-    let taken = c .before .before .before in
-    rw (eq-eqb _ _ (taken .if1 .taken), ← c .before .adding2 .ensures, ← taken .before .before .adding .ensures) (c .wake-events .ensures)
+    let on = c .before .before .before in
+    let marked = on .before .before in
+    let a = marked .before .before .args in
+    rw (on-leaves (read (a .t)) (a .c) (on .if1 .taken), ← c .before .adding2 .ensures, ← marked .adding .ensures) (c .wake-events .ensures)
 
 cast-dropping : tie.Need-cast-dropping
 cast-dropping c = search needs
@@ -38,11 +39,11 @@ dropping-requires : tie.Need-dropping-requires
 dropping-requires c κs = search needs
 
 returns-2 : tie.Need-returns-2
-unfolding signal
 returns-2 c =
-    let left = c .before .before in
-    let marked = left .before .before in
-    record { sound = marked .before .before .pre .0 .pointers; reads = rw (ne-eqb _ _ (left .if1 .left), ← c .dropping .ensures, ← marked .adding .ensures) }
+    let off = c .before .before in
+    let marked = off .before .before in
+    let p = marked .before .before in
+    record { sound = p .pre .0 .pointers; reads = rw (off-leaves (read (p .args .t)) (p .args .c) (off .if1 .left), ← c .dropping .ensures, ← marked .adding .ensures) }
 
 pub signal-spec : {M : Type 1} → statement M
 signal-spec =
