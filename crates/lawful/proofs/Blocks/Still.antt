@@ -2,7 +2,7 @@
 use mathlib.Core.Bool.{Bool, true, false, cond, _||_}
 use mathlib.Core.Path.{_≡_, refl, sym, ap, _∙_}
 use mathlib.Core.List.{List, _∷_}
-use Prim.Native.Nat.{ℕ, _+_, _≤_}
+use Prim.Native.Nat.{ℕ, _+_}
 use Rattle.words.specs.Words.{_among_}
 use Rattle.tables.specs.State.{State, withClock, withOn, withSignalled, taskAt, requestAt}
 use Rattle.meaning.specs.Channel.{channelLevel}

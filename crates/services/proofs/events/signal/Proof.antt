@@ -1,6 +1,5 @@
 -- `events::signal` meets its contract: on, and all waiters are looked at; or off.
 use borrow.Author.Needs.{needs}
-use native.Mathlib.Omega.{arith}
 use Rattle.tables.specs.State.{read}
 use Rattle.tasking.proofs.Ticks.{on-shape}
 use Rattle.services.proofs.Known.{on-leaves, off-leaves}
