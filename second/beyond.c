@@ -1,6 +1,7 @@
 /* Tests what no session can reach: the check's two values, writing, refusal 9,
-   the clock's end, and what a short SIGNAL and a second load leave of the
-   signalled events. Prints what fails; exit status 1 if anything does. */
+   the clock's end and the readings of waits there, and what a short SIGNAL and a
+   second load leave of the signalled events. Prints what fails; exit status 1 if
+   anything does. */
 #include "executive.h"
 
 #include <stdio.h>
@@ -186,6 +187,59 @@ static void signalled_events(int *failed)
     expect(failed, answers(&executive, test, 0, 3, 1), "loaded again: 3");
 }
 
+/* Document 02, E6: "the clock reading at which it last entered any waiting
+   queue", up to the clock's end. 9 where it is past the clock. */
+static void late_readings(int *failed)
+{
+    struct executive executive;
+    struct directory directory = good_directory();
+    uint8_t bytes[IMAGE_LENGTH];
+    struct call start = {OPERATOR_START, 0, 0, 0, 0, 0};
+    struct call timer = {TIMER, 0, 0, 0, 0, 0};
+    struct call wait = {WAIT, ON_EVENTS, 0, 1, 0, 1};
+    image_put(&directory, bytes);
+    executive_load(&executive, bytes, IMAGE_LENGTH);
+    executive.clock = CLOCK_END - 1;
+    expect(failed, answers(&executive, start, 0, 1, 1), "start");
+    expect(failed, answers(&executive, wait, 0, 1, 0), "1 waits");
+    expect(failed, answers(&executive, timer, 0, 1, 0), "timer");
+    expect(failed, answers(&executive, start, 0, 2, 2), "start at the end");
+    expect(failed, answers(&executive, wait, 0, 1, 0), "2 waits");
+    expect(failed, answers(&executive, timer, 21, 0, 0), "timer: 21");
+    expect(failed, executive.task[1].since == CLOCK_END - 1
+                       && executive.task[2].since == CLOCK_END, "since then");
+    executive.clock = CLOCK_END - 1;
+    expect(failed, answers(&executive, start, 9, 0, 0), "past the clock: 9");
+    executive.task[2].since = CLOCK_END - 1;
+    expect(failed, answers(&executive, start, 0, 3, 3), "the clock itself");
+    executive.task[2].since = 0;
+    expect(failed, answers(&executive, start, 0, 4, 3), "since clock 0");
+}
+
+/* Document 02, E6: "0 while free, ready or running". 9 where it isn't. Blocks 1
+   and 2 run and are ready; the last one is free, and so is block 0, which is
+   none. */
+static void idle_readings(int *failed)
+{
+    static const int blocks[] = {1, 2, TASKS, 0};
+    struct executive executive;
+    struct directory directory = good_directory();
+    uint8_t bytes[IMAGE_LENGTH];
+    struct call start = {OPERATOR_START, 0, 0, 0, 0, 0};
+    struct call freemain = {FREEMAIN, 0, 0, 0, 0, 0};
+    image_put(&directory, bytes);
+    executive_load(&executive, bytes, IMAGE_LENGTH);
+    executive.clock = 1;
+    expect(failed, answers(&executive, start, 0, 1, 1), "start");
+    expect(failed, answers(&executive, start, 0, 2, 1), "start again");
+    for (size_t i = 0; i < sizeof blocks / sizeof blocks[0]; i++) {
+        executive.task[blocks[i]].since = 1;
+        expect(failed, answers(&executive, freemain, 9, 0, 0), "no wait: 9");
+        executive.task[blocks[i]].since = 0;
+        expect(failed, answers(&executive, freemain, 0, 1, 1), "no reading");
+    }
+}
+
 /* All of them. */
 int main(void)
 {
@@ -196,6 +250,8 @@ int main(void)
     refusal_9(&failed);
     clock_end(&failed);
     signalled_events(&failed);
+    late_readings(&failed);
+    idle_readings(&failed);
     printf("beyond: %d failed\n", failed);
     return failed != 0;
 }

@@ -42,7 +42,7 @@ extern const struct rule_case rule_cases[];
 extern const size_t rule_cases_count;
 
 /* One case of a row of the refusals, or of none of them; or of the answers of
-   TEST EVENT. */
+   TEST EVENT; or of the clock readings of those who wait. */
 enum { SEEN_MOST = 4 };
 struct refusal_case {
     int refusal;

@@ -61,12 +61,12 @@ void join_waiting(struct executive *executive, int block,
 {
     struct task *task = &executive->task[block];
     if (call->kind == ON_EVENTS) {
-        task->place = WAITS_FOR_EVENTS;
+        task_put(executive, block, WAITS_FOR_EVENTS);
         task->count = call->value;
         task->set = call->set;
         queue_join_end(&executive->event_queue, block);
     } else {
-        task->place = WAITS_FOR_TIME;
+        task_put(executive, block, WAITS_FOR_TIME);
         task->time = time_of(executive, call);
         join_time_queue(executive, block);
     }

@@ -50,7 +50,7 @@ static void grant(struct executive *executive, int block, int start)
 /* "goes to the end of its level's ready queue" */
 static void join_ready(struct executive *executive, int block)
 {
-    executive->task[block].place = READY;
+    task_put(executive, block, READY);
     queue_join_end(&executive->ready[task_level(executive, block)], block);
 }
 
@@ -76,7 +76,7 @@ void make_ready(struct executive *executive, int block)
     if (still_needs_core(executive, block)) {
         int start = lowest_start(executive, block);
         if (waiters->count > 0 || start == NO_RUN) {
-            executive->task[block].place = WAITS_FOR_CORE;
+            task_put(executive, block, WAITS_FOR_CORE);
             queue_join_end(waiters, block);
             return;
         }

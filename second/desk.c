@@ -3,10 +3,14 @@
    last call is 10; after a refused load it stops."
 
    With --check it tests its own tables after every call.
+   With --since the readings that the call has changed stand behind the three
+   numbers of its line: document 02's E6 gives every task block "the clock
+   reading at which it last entered any waiting queue".
    With --codes each line ends with the code of the call too, for counting. */
 #include "executive.h"
 #include "rules.h"
 
+#include <inttypes.h>
 #include <stdio.h>
 #include <stdlib.h>
 #include <string.h>
@@ -14,6 +18,7 @@
 /* What the arguments ask for. */
 struct wishes {
     int check;
+    int since;
     int codes;
 };
 
@@ -24,11 +29,27 @@ static void broken(unsigned long call, const char *words)
     abort();
 }
 
+/* Document 02, E6: the readings that a call has changed, in block order, each
+   as BLOCK@READING. */
+static void write_readings(const struct executive *before,
+                           const struct executive *after)
+{
+    for (int block = 1; block <= TASKS; block++) {
+        if (after->task[block].since != before->task[block].since) {
+            printf(" %d@%" PRIu32, block, after->task[block].since);
+        }
+    }
+}
+
 /* "It writes a line [...]": each before the next call is waited for. */
 static void write_line(const struct answer *answer, const struct wishes *wishes,
-                       const char *code)
+                       const struct executive *before,
+                       const struct executive *after, const char *code)
 {
     printf("%d %d %d", answer->refusal, answer->result, answer->running);
+    if (wishes->since) {
+        write_readings(before, after);
+    }
     if (wishes->codes) {
         printf(" %s", code);
     }
@@ -79,6 +100,33 @@ static void check_signalled(const struct executive *before,
     }
 }
 
+/* Document 02, E6: what the reading of a block has to be after a call. It is "0
+   while free, ready or running". Else who stays where it was keeps it, and
+   entering a waiting place or "Moving between waiting queues sets it anew", by
+   the clock as it is then. */
+static uint32_t reading_wanted(const struct task *before,
+                               const struct task *after, uint32_t clock)
+{
+    if (after->place == TASK_FREE || after->place == READY
+        || after->place == RUNNING) {
+        return 0;
+    }
+    return after->place == before->place ? before->since : clock;
+}
+
+/* The readings of all blocks, from the tables before and after a call. */
+static void check_readings(const struct executive *before,
+                           const struct executive *after, unsigned long number)
+{
+    for (int block = 1; block <= TASKS; block++) {
+        if (after->task[block].since
+            != reading_wanted(&before->task[block], &after->task[block],
+                              after->clock)) {
+            broken(number, "a reading is the clock at the start of the wait");
+        }
+    }
+}
+
 /* Demand 3 and the table rules after a call, and "A refused call changes no
    table [...] and no accepted answer carries a zero result". */
 static void check_call(const struct executive *before,
@@ -103,6 +151,7 @@ static void check_call(const struct executive *before,
         broken(number, "no accepted answer carries a zero result");
     }
     check_signalled(before, after, number, bytes);
+    check_readings(before, after, number);
     check_dispatch(before, after, number, bytes, length);
 }
 
@@ -115,14 +164,13 @@ static void take_calls(struct executive *executive, const struct wishes *wishes)
     size_t length = fread(bytes, 1, CALL_LENGTH, stdin);
     while (length > 0) {
         number++;
-        if (wishes->check) {
-            memcpy(&before, executive, sizeof before);
-        }
+        memcpy(&before, executive, sizeof before);
         struct answer answer = executive_step(executive, bytes, length);
         if (wishes->check) {
             check_call(&before, executive, number, bytes, length, &answer);
         }
-        write_line(&answer, wishes, code_name(bytes, length));
+        write_line(&answer, wishes, &before, executive,
+                   code_name(bytes, length));
         length = length < CALL_LENGTH ? 0 : fread(bytes, 1, CALL_LENGTH, stdin);
     }
 }
@@ -147,6 +195,8 @@ static int read_wishes(struct wishes *wishes, int count, char **arguments)
     for (int i = 1; i < count; i++) {
         if (strcmp(arguments[i], "--check") == 0) {
             wishes->check = 1;
+        } else if (strcmp(arguments[i], "--since") == 0) {
+            wishes->since = 1;
         } else if (strcmp(arguments[i], "--codes") == 0) {
             wishes->codes = 1;
         } else {
@@ -160,10 +210,10 @@ static int read_wishes(struct wishes *wishes, int count, char **arguments)
 int main(int count, char **arguments)
 {
     struct executive executive;
-    struct wishes wishes = {0, 0};
+    struct wishes wishes = {0, 0, 0};
     uint8_t image[IMAGE_LENGTH];
     if (!read_wishes(&wishes, count, arguments)) {
-        fprintf(stderr, "usage: desk [--check] [--codes]\n");
+        fprintf(stderr, "usage: desk [--check] [--since] [--codes]\n");
         return 2;
     }
     size_t length = fread(image, 1, IMAGE_LENGTH, stdin);
@@ -171,7 +221,7 @@ int main(int count, char **arguments)
     if (wishes.check && answer.refusal == 0) {
         check_load(&executive, image);
     }
-    write_line(&answer, &wishes, "load");
+    write_line(&answer, &wishes, &executive, &executive, "load");
     if (answer.refusal == 0) {
         take_calls(&executive, &wishes);
     }

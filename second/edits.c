@@ -63,6 +63,7 @@ static const struct field of_task[] = {
     FIELD(khilzurgee_task, count),
     FIELD(khilzurgee_task, events),
     FIELD(khilzurgee_task, time),
+    FIELD(khilzurgee_task, since),
     FIELD(khilzurgee_task, request),
 };
 static const struct field of_request[] = {
@@ -192,6 +193,7 @@ static void move_task(struct executive *executive, struct random *random)
         task->count = 0;
         task->set = 0;
         task->time = 0;
+        task->since = 0;
         task->awaited = 0;
     }
     if (task->place == RUNNING) {
@@ -259,6 +261,14 @@ static uint64_t some_event(const struct executive *executive,
     return UINT64_C(1) << event;
 }
 
+/* A clock reading on either side of the clock: one before it, the clock itself,
+   or one past it. At clock 0 the first is past it too. */
+static uint32_t some_reading(const struct executive *executive,
+                             struct random *random)
+{
+    return executive->clock - 1 + random_below(random, 3);
+}
+
 /* One of the other things that a block says; or an event goes on or off, or
    becomes one that was signalled or that never was. */
 static void change_block(struct executive *executive, struct random *random)
@@ -267,7 +277,7 @@ static void change_block(struct executive *executive, struct random *random)
     struct task *task = &executive->task[block];
     unsigned number = 1 + random_below(random, REQUESTS);
     unsigned event = random_below(random, EVENTS);
-    switch (random_below(random, 9)) {
+    switch (random_below(random, 10)) {
     case 0:
         task->parent = (uint8_t)random_below(random, TASKS + 1);
         break;
@@ -287,9 +297,12 @@ static void change_block(struct executive *executive, struct random *random)
         task->awaited = (uint8_t)random_below(random, REQUESTS + 1);
         break;
     case 6:
-        executive->request[number].owner = (uint8_t)random_below(random, TASKS + 1);
+        task->since = some_reading(executive, random);
         break;
     case 7:
+        executive->request[number].owner = (uint8_t)random_below(random, TASKS + 1);
+        break;
+    case 8:
         executive->on ^= some_event(executive, random);
         break;
     default:

@@ -25,6 +25,7 @@ void finish(struct executive *executive, int block)
         make_ready(executive, task->parent);
     }
     memset(task, 0, sizeof *task);
+    task_put(executive, block, TASK_FREE);
 }
 
 /* "a caller with requests queued or on the channel waits as ending and keeps
@@ -32,7 +33,7 @@ void finish(struct executive *executive, int block)
 void end_or_wait(struct executive *executive, int block)
 {
     if (has_pending(executive, block)) {
-        executive->task[block].place = ENDING;
+        task_put(executive, block, ENDING);
     } else {
         finish(executive, block);
     }

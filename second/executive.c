@@ -45,7 +45,7 @@ void executive_dispatch(struct executive *executive)
     int level = best_ready_level(executive);
     if (executive->running == 0 && level != 0) {
         int block = queue_take(&executive->ready[level], 0);
-        executive->task[block].place = RUNNING;
+        task_put(executive, block, RUNNING);
         executive->running = (uint8_t)block;
     }
 }

@@ -47,7 +47,9 @@ enum core {
 };
 
 /* A task block. Count and set belong to the event queue, time to the time
-   queue, awaited to CHECK. */
+   queue, awaited to CHECK. `since` is document 02's "clock reading at which it
+   last entered any waiting queue" (E6); task_put alone sets it, and the
+   place. */
 struct task {
     uint8_t place;
     uint8_t module;
@@ -56,6 +58,7 @@ struct task {
     uint8_t count;
     uint8_t awaited;
     uint32_t time;
+    uint32_t since;
     uint64_t set;
 };
 
@@ -119,6 +122,8 @@ const struct module *task_module(const struct executive *executive, int block);
 int task_level(const struct executive *executive, int block);
 int task_lowest_free(const struct executive *executive);
 int task_new(struct executive *executive, int module);
+int place_waits(int place);
+void task_put(struct executive *executive, int block, int place);
 void task_stop_running(struct executive *executive, int place);
 int best_ready_level(const struct executive *executive);
 

@@ -1,7 +1,7 @@
 /* Calls on either side of the line of each row of document 01's table of
    refusals and of document 02's 25, and calls to which two rows apply; the
-   answers of TEST EVENT, and what signals an event. The numbers were found by
-   hand, from the papers. */
+   answers of TEST EVENT, and what signals an event; the clock readings that
+   calls leave. The numbers were found by hand, from the papers. */
 #include "cases.h"
 
 /* A row: the refusal, 0 if accepted; the tables; the call's code, kind, number,
@@ -63,6 +63,25 @@
     {0, name, USUAL, {WAIT, ON_EVENTS, 0, how_many, 0, EVENTS_0_1},        \
      {EVENTS_ARE(on_now, ever)}, CALL_LENGTH,                              \
      {EVENTS_ARE(on_now, ever), SET(running, runs)}, 0}
+
+/* A call at clock 17, and the clock reading that a block has then. */
+#define READING(refusal, name, on, block, reading, ...)                    \
+    {refusal, name, on, {__VA_ARGS__}, {SET(clock, 17)}, CALL_LENGTH,      \
+     {SET(tasks[block].since, reading)}, 0}
+
+/* A call of that code, number and value on the sample, edited, whose clock is 5,
+   and the place and the reading that a block has then. */
+#define MOVES(name, block, place_then, reading, code, number, value, ...)  \
+    {0, name, SAMPLE, {code, 0, number, value, 0, 0}, {__VA_ARGS__},       \
+     CALL_LENGTH, {SET(tasks[block].place, place_then),                    \
+                   SET(tasks[block].since, reading)}, 0}
+
+/* In the sample the last request of task 1, which is ending, is on the channel,
+   and 3 is queued behind 4 and 5. */
+#define LAST_OF_1                                                          \
+    SET(requests[2].place, ON_CHANNEL), SET(requests[3].place, QUEUED),    \
+    SET(channel, 2), SET(threads.fwd[29], 27), SET(threads.back[27], 29),  \
+    SET(threads.back[26], 0), SET(threads.last[8], 27)
 
 /* Task 1 holds 4 units; it has given them back. */
 #define HOLDS_CORE                                                         \
@@ -290,6 +309,84 @@ const struct refusal_case refusal_cases[] = {
     CALL(15, "15, 16", FULL, SCHEDULE, 3, 0, 0, 4294967295, 0),
     CALL(22, "22, 17", FULL, READ, 0, 250, 0, 4, 0),
     CALL(23, "23, 17", FULL, READ, 0, 7, 0, 0, 0),
+
+    /* Document 02's E6: "the clock reading at which it last entered any waiting
+       queue". Task 1 runs, 2 is ready, 3 is the first free block. */
+    READING(0, "WAIT for event 0", USUAL, 1, 17, WAIT, 1, 0, 1, 0, 0x1),
+    READING(0, "WAIT until 18", USUAL, 1, 17, WAIT, 2, 0, 0, 18, 0),
+    READING(0, "WAIT a cycle", USUAL, 1, 17, WAIT, 3, 0, 0, 1, 0),
+    READING(0, "WAIT until 17, which holds", USUAL, 1, 0, WAIT, 2, 0, 0, 17, 0),
+    READING(0, "WAIT no cycle, which holds", USUAL, 1, 0, WAIT, 3, 0, 0, 0, 0),
+    READING(0, "LINK, the caller", USUAL, 1, 17, LINK, 0, 0, 0, 0, 0),
+    READING(0, "LINK, the child", USUAL, 3, 0, LINK, 0, 0, 0, 0, 0),
+    READING(0, "CHECK of one on the channel", USUAL, 1, 17, CHECK, 0, 1, 0, 0, 0),
+    READING(0, "CHECK of one that is done", USUAL, 1, 0, CHECK, 0, 3, 0, 0, 0),
+    READING(0, "END with one on the channel", USUAL, 1, 17, END, 0, 0, 0, 0, 0),
+    READING(0, "program check, the same", USUAL, 1, 17, PROGRAM_CHECK, 0, 0, 0, 0, 0),
+    READING(0, "who is dispatched by that", USUAL, 2, 0, PROGRAM_CHECK, 0, 0, 0, 0, 0),
+    READING(0, "END without a request", CHAIN, 24, 0, END, 0, 0, 0, 0, 0),
+    READING(0, "its parent, who goes on", CHAIN, 23, 0, END, 0, 0, 0, 0, 0),
+    READING(0, "its parent's, who stays", CHAIN, 22, 0, END, 0, 0, 0, 0, 0),
+    READING(0, "DISPATCH CHECK", USUAL, 1, 0, DISPATCH_CHECK, 0, 0, 0, 0, 0),
+    READING(0, "SCHEDULE on event 0", USUAL, 3, 17, SCHEDULE, 1, 0, 1, 0, 0x1),
+    READING(0, "SCHEDULE at 18", USUAL, 3, 17, SCHEDULE, 2, 0, 0, 18, 0),
+    READING(0, "SCHEDULE at 17, which holds", USUAL, 3, 0, SCHEDULE, 2, 0, 0, 17, 0),
+    READING(0, "SCHEDULE at once", USUAL, 3, 0, SCHEDULE, 0, 0, 0, 0, 0),
+    READING(0, "timer, who waits since 0", IDLE, 1, 0, TIMER, 0, 0, 0, 0, 0),
+    READING(13, "WAIT kind 0, refused", USUAL, 1, 0, WAIT, 0, 0, 0, 0, 0),
+    READING(15, "WAIT past the end, refused", USUAL, 1, 0, WAIT, 3, 0, 0, 4294967295, 0),
+    READING(18, "CHECK of a free one, refused", USUAL, 1, 0, CHECK, 0, 4, 0, 0, 0),
+    READING(12, "LINK of no module, refused", USUAL, 1, 0, LINK, 0, 3, 0, 0, 0),
+    READING(16, "LINK without a block, refused", FULL, 1, 0, LINK, 0, 0, 0, 0, 0),
+
+    /* "Moving between waiting queues sets it anew." In the sample 5 waits for 2
+       of the events 1 and 2 and for core of level 3, which 18 waits for; 6 waits
+       for event 3; both since 2. */
+    MOVES("SIGNAL 2: from event to core", 5, WAITS_FOR_CORE, 5, SIGNAL, 2, 1, NOTHING),
+    MOVES("SIGNAL 2: for another event", 6, WAITS_FOR_EVENTS, 2, SIGNAL, 2, 1, NOTHING),
+    MOVES("SIGNAL 3: from event to ready", 6, READY, 0, SIGNAL, 3, 1, NOTHING),
+    MOVES("SIGNAL 2 off: it stays", 5, WAITS_FOR_EVENTS, 2, SIGNAL, 2, 0, NOTHING),
+
+    /* The timer makes the clock 6, which 2 divides. Who needs no core, or finds
+       17 in the core queue of level 1. */
+    MOVES("timer: from time to ready", 7, READY, 0, TIMER, 0, 0, SET(tasks[7].time, 6)),
+    MOVES("timer: from time to core", 7, WAITS_FOR_CORE, 6, TIMER, 0, 0,
+          SET(tasks[7].time, 6), SET(tasks[7].program, 4)),
+    MOVES("timer: due at 5, woken at 6", 7, WAITS_FOR_CORE, 6, TIMER, 0, 0,
+          SET(tasks[7].time, 5), SET(tasks[7].program, 4)),
+    MOVES("timer: not due", 7, WAITS_FOR_TIME, 2, TIMER, 0, 0, NOTHING),
+    MOVES("timer: who waits for core", 3, WAITS_FOR_CORE, 2, TIMER, 0, 0, NOTHING),
+
+    /* 14 runs and has a request, its parents 13 and 9 have none; or 13 has one,
+       in place of 11. */
+    MOVES("program check: 14 is ending", 14, ENDING, 5, PROGRAM_CHECK, 0, 0, NOTHING),
+    MOVES("program check: 13 finishes", 13, TASK_FREE, 0, PROGRAM_CHECK, 0, 0, NOTHING),
+    MOVES("program check: 9 finishes", 9, TASK_FREE, 0, PROGRAM_CHECK, 0, 0, NOTHING),
+    MOVES("program check: from LINK to ending", 13, ENDING, 5, PROGRAM_CHECK, 0, 0,
+          SET(requests[4].owner, 13)),
+    MOVES("program check: another stays ending", 1, ENDING, 3, PROGRAM_CHECK, 0, 0, NOTHING),
+    MOVES("END: 14 is ending", 14, ENDING, 5, END, 0, 0, NOTHING),
+    MOVES("END: its parent stays in LINK", 13, IN_LINK, 4, END, 0, 0, NOTHING),
+
+    /* I/O done, of request 3, that 10 is in CHECK for; or of one of 11. */
+    MOVES("I/O done: from CHECK to ready", 10, READY, 0, IO_DONE, 0, 0, NOTHING),
+    MOVES("I/O done: of another's", 10, IN_CHECK, 3, IO_DONE, 0, 0,
+          SET(requests[3].owner, 11), SET(requests[4].owner, 10), SET(tasks[10].request, 4)),
+    MOVES("I/O done: its own goes on the channel", 10, IN_CHECK, 3, IO_DONE, 0, 0,
+          SET(requests[4].owner, 10), SET(tasks[10].request, 4)),
+
+    /* Task 1 finishes. Of level 3 it has the units 0 to 3; task 12 has 4 to 7, or
+       60 to 63, so that 18 gets 60. */
+    MOVES("I/O done: from ending to free", 1, TASK_FREE, 0, IO_DONE, 0, 0, LAST_OF_1),
+    MOVES("I/O done: its core is not enough", 18, WAITS_FOR_CORE, 4, IO_DONE, 0, 0,
+          LAST_OF_1, SET(tasks[18].since, 4)),
+    MOVES("I/O done: from core to ready", 18, READY, 0, IO_DONE, 0, 0, LAST_OF_1,
+          SET(tasks[12].start, 60), SET(pools[3], UINT64_C(0xf00000000000000f))),
+
+    /* A new task waits for core at once. */
+    MOVES("start of 5: core of level 3", 19, WAITS_FOR_CORE, 5, OPERATOR_START, 5, 0, NOTHING),
+    MOVES("start of 2: who waits there", 3, WAITS_FOR_CORE, 2, OPERATOR_START, 2, 0, NOTHING),
+    MOVES("DISPATCH CHECK: 9 stays in LINK", 9, IN_LINK, 3, DISPATCH_CHECK, 0, 0, NOTHING),
 
     /* Where the fields of a call go; a set that is read and not used. */
     NEW_TASK("SCHEDULE 1 on 1 of event 0", 1, 1, 0x1, 0, SCHEDULE, 1, 1, 1, 0, 0x1),

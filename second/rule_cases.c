@@ -27,6 +27,8 @@ static const char idle_if_nothing_ready[] = "idle only if nothing is ready";
 static const char no_condition_holds[] =
     "no event waiter's condition already holds";
 static const char no_first_waiter_fits[] = "no first waiter for core would fit";
+static const char readings_not_past[] =
+    "the reading of a wait is never past the clock";
 static const char time_queue_by_time[] = "the time queue by time";
 static const char channel_queue_by_level[] = "the channel queue by level";
 static const char queues_hold_own_level[] =
@@ -132,10 +134,14 @@ const struct rule_case rule_cases[] = {
     BREAKS(fields_in_range, "request 17 is on the channel", LOADED, SET(channel, 17)),
     BREAKS_TOO(fields_in_range, core_adds_up, "a run goes over unit 63", SAMPLE,
                RUN(12, 61, 3, UINT64_C(0xe00000000000000f))),
-    BREAKS(fields_in_range, "place 9 of a task", SAMPLE, SET(tasks[1].place, 9)),
+    BREAKS(fields_in_range, "place 9 of a task", SAMPLE, SET(tasks[1].place, 9),
+           SET(tasks[1].since, 0)),
     BREAKS(fields_in_range, "module 8 of 8", SAMPLE, SET(tasks[9].program, 8)),
-    BREAKS(fields_in_range, "module 256", SAMPLE, SET(tasks[9].program, 256)),
-    BREAKS(fields_in_range, "CHECK for request 259", SAMPLE, SET(tasks[10].request, 259)),
+    BREAKS(fields_in_range, "module 32", SAMPLE, SET(tasks[9].program, 32)),
+    BREAKS(fields_in_range, "module 255", SAMPLE, SET(tasks[9].program, 255)),
+    BREAKS(fields_in_range, "CHECK for request 17", SAMPLE, SET(tasks[10].request, 17)),
+    BREAKS(fields_in_range, "CHECK for request 19", SAMPLE, SET(tasks[10].request, 19)),
+    BREAKS(fields_in_range, "CHECK for request 255", SAMPLE, SET(tasks[10].request, 255)),
     BREAKS(fields_in_range, "parent 25", SAMPLE, SET(tasks[15].parent, 25)),
     BREAKS(fields_in_range, "core 3", SAMPLE, SET(tasks[11].core, 3)),
     BREAKS(fields_in_range, "place 4 of a request", SAMPLE, SET(requests[1].place, 4)),
@@ -242,7 +248,7 @@ const struct rule_case rule_cases[] = {
     BREAKS(tasks_in_one_place, "awaits core, and says that it awaits time", SAMPLE,
            SET(tasks[17].place, WAITS_FOR_TIME)),
     BREAKS(tasks_in_one_place, "on no queue, and says that it is ready", SAMPLE,
-           SET(tasks[1].place, READY)),
+           SET(tasks[1].place, READY), SET(tasks[1].since, 0)),
     BREAKS(tasks_in_one_place, "4 has changed queues with 2", SAMPLE, ONE(2, 4), TWO(5, 3, 2)),
     KEEPS(tasks_in_one_place, "two core waiters change their turns", SAMPLE, TWO(5, 4, 3)),
 
@@ -269,11 +275,19 @@ const struct rule_case rule_cases[] = {
     KEEPS(free_sets_right, "all blocks are free", LOADED, NOTHING),
 
     /* Task 3 waits for core, 5 for events, 11 has given its core back, 14 runs,
-       15 is ready. Then free blocks, and slot 0. */
+       15 is ready. Then free blocks, and slot 0. The clock is 5. */
     BREAKS(idle_fields_zero, "a count while it runs", SAMPLE, SET(tasks[14].count, 1)),
     BREAKS(idle_fields_zero, "events while it is ready", SAMPLE, SET(tasks[15].events, 8)),
     BREAKS(idle_fields_zero, "a time while it awaits events", SAMPLE, SET(tasks[5].time, 9)),
     BREAKS(idle_fields_zero, "a request while it is ready", SAMPLE, SET(tasks[15].request, 5)),
+    BREAKS(idle_fields_zero, "a reading while it runs", SAMPLE, SET(tasks[14].since, 1)),
+    BREAKS(idle_fields_zero, "the clock as its reading while it runs", SAMPLE,
+           SET(tasks[14].since, 5)),
+    BREAKS(idle_fields_zero, "a reading while it is ready", SAMPLE, SET(tasks[15].since, 1)),
+    BREAKS(idle_fields_zero, "a reading while it is ready, with core", SAMPLE,
+           SET(tasks[12].since, 5)),
+    BREAKS(idle_fields_zero, "a reading while it is ready, of level 2", SAMPLE,
+           SET(tasks[2].since, 2)),
     BREAKS_TOO(idle_fields_zero, core_adds_up, "a start while it awaits core", SAMPLE,
                SET(tasks[3].start, 1)),
     BREAKS_TOO(idle_fields_zero, core_adds_up, "a start while its core is given back", SAMPLE,
@@ -285,12 +299,18 @@ const struct rule_case rule_cases[] = {
     BREAKS(idle_fields_zero, "a time of a free task", SAMPLE, SET(tasks[19].time, 1)),
     BREAKS(idle_fields_zero, "events of a free task", SAMPLE,
            SET(tasks[19].events, UINT64_C(0x8000000000000000))),
+    BREAKS(idle_fields_zero, "a reading of the first free task", SAMPLE,
+           SET(tasks[19].since, 1)),
+    BREAKS(idle_fields_zero, "a reading of the last free task", SAMPLE,
+           SET(tasks[24].since, 5)),
     BREAKS_TOO(idle_fields_zero, free_blocks_zero, "a device of a free request", SAMPLE,
                SET(requests[16].device, 7)),
     BREAKS_TOO(idle_fields_zero, free_blocks_zero, "an owner of a free request", SAMPLE,
                SET(requests[6].owner, 1)),
     BREAKS_TOO(idle_fields_zero, no_block_zero, "a time of task 0", SAMPLE,
                SET(tasks[0].time, 1)),
+    BREAKS_TOO(idle_fields_zero, no_block_zero, "a reading of task 0", SAMPLE,
+               SET(tasks[0].since, 1)),
     BREAKS_TOO(idle_fields_zero, no_block_zero, "bytes of request 0", SAMPLE,
                SET(requests[0].bytes, 1)),
     BREAKS_TOO(idle_fields_zero, no_block_zero, "a unit of level 0", SAMPLE, SET(pools[0], 1)),
@@ -298,6 +318,14 @@ const struct rule_case rule_cases[] = {
     KEEPS(idle_fields_zero, "reentrant", SAMPLE, SET(directory.entries[1].flags, 1)),
     KEEPS(idle_fields_zero, "the highest entry point", SAMPLE,
           SET(directory.entries[1].point, UINT32_MAX)),
+    KEEPS(idle_fields_zero, "a reading of each who waits, and of no other", SAMPLE, NOTHING),
+    KEEPS(idle_fields_zero, "another reading while it awaits core", SAMPLE,
+          SET(tasks[3].since, 1)),
+    KEEPS(idle_fields_zero, "another while it awaits events", SAMPLE, SET(tasks[5].since, 1)),
+    KEEPS(idle_fields_zero, "another while it awaits time", SAMPLE, SET(tasks[7].since, 1)),
+    KEEPS(idle_fields_zero, "another while it is in LINK", SAMPLE, SET(tasks[9].since, 1)),
+    KEEPS(idle_fields_zero, "another while it is in CHECK", SAMPLE, SET(tasks[10].since, 1)),
+    KEEPS(idle_fields_zero, "another while it is ending", SAMPLE, SET(tasks[1].since, 1)),
 
     /* Level 1: task 10 has the units 0 to 7, and 16 the units 8 to 15. Level 2:
        task 2 has 0 to 59. Level 3: task 1 has 0 to 3, and 12 has 4 to 7. */
@@ -355,6 +383,48 @@ const struct rule_case rule_cases[] = {
     KEEPS(no_first_waiter_fits, "49 units of 48", SAMPLE, SET(directory.entries[4].units, 49)),
     KEEPS(no_first_waiter_fits, "the second would fit", SAMPLE, SET(tasks[4].program, 6)),
     KEEPS(no_first_waiter_fits, "57 units of 56", SAMPLE, SET(directory.entries[5].units, 57)),
+
+    /* Document 02's E6. The clock is 5. Task 1 is ending, 3, 17 and 18 wait for
+       core, the last two since 5; 5 waits for events, 7 for time, 9 is in LINK and
+       10 in CHECK. A reading of 0 is one of those who wait, too: it is that of
+       clock 0. 256 and 65,541 end in the bytes of good ones. */
+    BREAKS(readings_not_past, "core since 6", SAMPLE, SET(tasks[3].since, 6)),
+    BREAKS(readings_not_past, "events since 6", SAMPLE, SET(tasks[5].since, 6)),
+    BREAKS(readings_not_past, "time since 6", SAMPLE, SET(tasks[7].since, 6)),
+    BREAKS(readings_not_past, "LINK since 6", SAMPLE, SET(tasks[9].since, 6)),
+    BREAKS(readings_not_past, "CHECK since 6", SAMPLE, SET(tasks[10].since, 6)),
+    BREAKS(readings_not_past, "ending since 6", SAMPLE, SET(tasks[1].since, 6)),
+    BREAKS(readings_not_past, "core since 6, the last of all", SAMPLE, SET(tasks[18].since, 6)),
+    BREAKS(readings_not_past, "time since its time, 50", SAMPLE, SET(tasks[7].since, 50)),
+    BREAKS(readings_not_past, "events since 256", SAMPLE, SET(tasks[5].since, 256)),
+    BREAKS(readings_not_past, "LINK since 65541", SAMPLE, SET(tasks[9].since, 65541)),
+    BREAKS(readings_not_past, "CHECK since 4294967295", SAMPLE,
+           SET(tasks[10].since, UINT32_MAX)),
+    BREAKS(readings_not_past, "two since 5, and the clock is 4", SAMPLE, SET(clock, 4)),
+    BREAKS(readings_not_past, "the clock is 0", SAMPLE, SET(clock, 0)),
+    BREAKS(readings_not_past, "LINK since 1, and the clock is 0", CHAIN, SET(tasks[1].since, 1)),
+    BREAKS(readings_not_past, "LINK since the clock's end, and it is one before", CHAIN,
+           SET(tasks[23].since, UINT32_MAX), SET(clock, UINT32_MAX - 1)),
+    KEEPS(readings_not_past, "core since 5", SAMPLE, SET(tasks[3].since, 5)),
+    KEEPS(readings_not_past, "events since 5", SAMPLE, SET(tasks[5].since, 5)),
+    KEEPS(readings_not_past, "time since 5", SAMPLE, SET(tasks[7].since, 5)),
+    KEEPS(readings_not_past, "LINK since 5", SAMPLE, SET(tasks[9].since, 5)),
+    KEEPS(readings_not_past, "CHECK since 5", SAMPLE, SET(tasks[10].since, 5)),
+    KEEPS(readings_not_past, "ending since 5", SAMPLE, SET(tasks[1].since, 5)),
+    KEEPS(readings_not_past, "core since 4", SAMPLE, SET(tasks[18].since, 4)),
+    KEEPS(readings_not_past, "core since 0", SAMPLE, SET(tasks[3].since, 0)),
+    KEEPS(readings_not_past, "events since 0", SAMPLE, SET(tasks[5].since, 0)),
+    KEEPS(readings_not_past, "time since 0", SAMPLE, SET(tasks[7].since, 0)),
+    KEEPS(readings_not_past, "LINK since 0", SAMPLE, SET(tasks[9].since, 0)),
+    KEEPS(readings_not_past, "CHECK since 0", SAMPLE, SET(tasks[10].since, 0)),
+    KEEPS(readings_not_past, "ending since 0", SAMPLE, SET(tasks[1].since, 0)),
+    KEEPS(readings_not_past, "the first of a queue since 4, the next since 2", SAMPLE,
+          SET(tasks[5].since, 4)),
+    KEEPS(readings_not_past, "the clock is 6", SAMPLE, SET(clock, 6)),
+    KEEPS(readings_not_past, "the clock is at its end", SAMPLE, SET(clock, UINT32_MAX)),
+    KEEPS(readings_not_past, "LINK since 0, and the clock is 0", CHAIN, NOTHING),
+    KEEPS(readings_not_past, "LINK since the clock's end", CHAIN,
+          SET(tasks[23].since, UINT32_MAX), SET(clock, UINT32_MAX)),
 
     /* The times are 50, 60 and 70, of the tasks 7, 11 and 8. The requests 4, 5
        and 2 are of the levels 1, 1 and 3; task 2 is of level 2, 12 of 3. */

@@ -190,7 +190,8 @@ static int free_blocks_zero(const struct executive *executive)
 }
 
 /* "any field with no meaning in the block's present place, is zero". Core has
-   none for a module without units. */
+   none for a module without units. Document 02, E6: the clock reading is "0
+   while free, ready or running". */
 static int idle_fields_zero(const struct executive *executive)
 {
     for (int block = 0; block <= TASKS; block++) {
@@ -203,6 +204,9 @@ static int idle_fields_zero(const struct executive *executive)
             return 0;
         }
         if (task->place != IN_CHECK && task->awaited != 0) {
+            return 0;
+        }
+        if (!place_waits(task->place) && task->since != 0) {
             return 0;
         }
         if (task_module(executive, block)->units == 0
@@ -293,6 +297,17 @@ static int no_first_waiter_fits(const struct executive *executive)
         if (queue->count > 0
             && task_module(executive, queue->block[0])->units
                <= longest_free_run(executive, level)) {
+            return 0;
+        }
+    }
+    return 1;
+}
+
+/* Document 02, E6: "Demand 3 gains: it is never past the clock." */
+static int readings_not_past(const struct executive *executive)
+{
+    for (int block = 0; block <= TASKS; block++) {
+        if (executive->task[block].since > executive->clock) {
             return 0;
         }
     }
@@ -483,6 +498,7 @@ static const struct {
     {"idle only if nothing is ready", idle_only_if_nothing_ready},
     {"no event waiter's condition already holds", no_condition_holds},
     {"no first waiter for core would fit", no_first_waiter_fits},
+    {"the reading of a wait is never past the clock", readings_not_past},
     {"the time queue by time", time_queue_by_time},
     {"the channel queue by level", channel_queue_by_level},
     {"ready and core queues hold their level's tasks", queues_hold_own_level},

@@ -19,10 +19,11 @@ static const struct khilzurgee_tables loaded = {
 
 /* A block in every place. The event queue is 5, 6; ready are 15, 16 and 2 and
    12; the core queues are 17 and 3, 4 and 18; the time queue is 7, 11, 8; the
-   channel queue is 28, 29, 26, which are the requests 4, 5 and 2. */
+   channel queue is 28, 29, 26, which are the requests 4, 5 and 2. The clock is 5,
+   and the waits began at 2, 3, 4 and 5. */
 static const struct khilzurgee_tables sample = {
     .directory = EIGHT_MODULES,
-    .clock = 2,
+    .clock = 5,
     .on = 0x2,
     .signalled = 0x6,
     .running = 14,
@@ -31,25 +32,27 @@ static const struct khilzurgee_tables sample = {
     .free_requests = 0x1ffc0,
     .pools = {0, 0xffff, 0xfffffffffffffff, 0xff},
     .tasks = {
-        [1] = {.place = ENDING, .program = 3, .core = CORE_HELD},
+        [1] = {.place = ENDING, .since = 3, .program = 3, .core = CORE_HELD},
         [2] = {.place = READY, .program = 2, .core = CORE_HELD},
-        [3] = {.place = WAITS_FOR_CORE, .program = 2},
-        [4] = {.place = WAITS_FOR_CORE, .program = 2},
-        [5] = {.place = WAITS_FOR_EVENTS, .program = 3, .count = 2, .events = 6},
-        [6] = {.place = WAITS_FOR_EVENTS, .count = 1, .events = 8},
-        [7] = {.place = WAITS_FOR_TIME, .time = 50},
-        [8] = {.place = WAITS_FOR_TIME, .time = 70},
-        [9] = {.place = IN_LINK},
-        [10] = {.place = IN_CHECK, .program = 1, .core = CORE_HELD, .request = 3},
-        [11] = {.place = WAITS_FOR_TIME, .program = 1, .core = CORE_GIVEN_BACK,
-                .time = 60},
+        [3] = {.place = WAITS_FOR_CORE, .since = 2, .program = 2},
+        [4] = {.place = WAITS_FOR_CORE, .since = 2, .program = 2},
+        [5] = {.place = WAITS_FOR_EVENTS, .since = 2, .program = 3, .count = 2,
+               .events = 6},
+        [6] = {.place = WAITS_FOR_EVENTS, .since = 2, .count = 1, .events = 8},
+        [7] = {.place = WAITS_FOR_TIME, .since = 2, .time = 50},
+        [8] = {.place = WAITS_FOR_TIME, .since = 2, .time = 70},
+        [9] = {.place = IN_LINK, .since = 3},
+        [10] = {.place = IN_CHECK, .since = 3, .program = 1, .core = CORE_HELD,
+                .request = 3},
+        [11] = {.place = WAITS_FOR_TIME, .since = 4, .program = 1,
+                .core = CORE_GIVEN_BACK, .time = 60},
         [12] = {.place = READY, .program = 3, .core = CORE_HELD, .start = 4},
-        [13] = {.place = IN_LINK, .parent = 9},
+        [13] = {.place = IN_LINK, .since = 4, .parent = 9},
         [14] = {.place = RUNNING, .parent = 13},
         [15] = {.place = READY},
         [16] = {.place = READY, .program = 1, .core = CORE_HELD, .start = 8},
-        [17] = {.place = WAITS_FOR_CORE, .program = 4},
-        [18] = {.place = WAITS_FOR_CORE, .program = 5},
+        [17] = {.place = WAITS_FOR_CORE, .since = 5, .program = 4},
+        [18] = {.place = WAITS_FOR_CORE, .since = 5, .program = 5},
     },
     .requests = {
         [1] = {DONE, 1, 7, READ, 80},
@@ -82,6 +85,7 @@ static const struct call sample_calls[] = {
     {SCHEDULE, ON_EVENTS, 0, 1, 0, 0x8},     /* 6 */
     {SCHEDULE, AT_TIME, 0, 0, 50, 0},        /* 7 */
     {SCHEDULE, AFTER_INTERVAL, 0, 0, 68, 0}, /* 8 */
+    {TIMER, 0, 0, 0, 0, 0},                  /* the clock is 3 */
     {SCHEDULE, AT_ONCE, 0, 0, 0, 0},         /* 9 */
     {SCHEDULE, AT_ONCE, 1, 0, 0, 0},         /* 10 */
     {SCHEDULE, AT_ONCE, 1, 0, 0, 0},         /* 11 */
@@ -95,17 +99,19 @@ static const struct call sample_calls[] = {
     {FREEMAIN, 0, 0, 0, 0, 0},
     {WRITE, 0, 9, 0, 20, 0},  /* request 4; under it FREEMAIN is refused */
     {IO_DONE, 0, 0, 0, 0, 0}, /* request 1 is done, 3 goes on the channel */
+    {TIMER, 0, 0, 0, 0, 0},          /* the clock is 4 */
     {WAIT, AT_TIME, 0, 0, 60, 0},    /* 13 runs */
     {LINK, 0, 0, 0, 0, 0},           /* 14 is made, and runs */
     {SCHEDULE, AT_ONCE, 0, 0, 0, 0}, /* 15 */
     {SCHEDULE, AT_ONCE, 1, 0, 0, 0}, /* 16 */
     {READ, 0, 5, 0, 6, 0},           /* request 5 */
+    {TIMER, 0, 0, 0, 0, 0},          /* the clock is 5 */
     {SCHEDULE, AT_ONCE, 4, 0, 0, 0}, /* 17 and 18 wait for core */
     {SCHEDULE, AT_ONCE, 5, 0, 0, 0},
 };
 
 /* Module 0 is started, and 23 times LINKed to: task 24 runs, each other is its
-   child's parent. */
+   child's parent, since clock 0. */
 static void make_chain(struct khilzurgee_tables *tables)
 {
     *tables = loaded;
@@ -162,7 +168,7 @@ static void make_usual(struct khilzurgee_tables *tables)
     tables->free_requests &= 0xffff;
 }
 
-/* The same; both tasks wait for event 0. */
+/* The same; both tasks wait for event 0, since clock 0. */
 static void make_idle(struct khilzurgee_tables *tables)
 {
     make_usual(tables);

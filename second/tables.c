@@ -104,6 +104,7 @@ static int task_read(struct task *task, const struct khilzurgee_task *from)
     task->count = byte_of(from->count, &fits);
     task->awaited = byte_of(from->request, &fits);
     task->time = from->time;
+    task->since = from->since;
     task->set = from->events;
     return fits;
 }
@@ -267,6 +268,7 @@ static void task_write(struct khilzurgee_task *to,
     to->count = task->count;
     to->request = task->awaited;
     to->time = task->time;
+    to->since = task->since;
     to->events = task->set;
 }
 

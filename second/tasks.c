@@ -1,4 +1,5 @@
-/* Task blocks: their level, a new one, and the one that runs. */
+/* Task blocks: their level, a new one, the place of one, and the one that
+   runs. */
 #include "executive.h"
 
 /* A task is one of its module: "level, core units" are the module's. */
@@ -33,10 +34,33 @@ int task_new(struct executive *executive, int module)
     return block;
 }
 
+/* Document 02, E6: "any waiting queue, core, LINK, CHECK and ending too". The
+   others are "free, ready or running". */
+int place_waits(int place)
+{
+    return place == WAITS_FOR_EVENTS
+        || place == WAITS_FOR_TIME
+        || place == WAITS_FOR_CORE
+        || place == IN_LINK
+        || place == IN_CHECK
+        || place == ENDING;
+}
+
+/* Whoever goes to another place goes there by this. Document 02, E6: "Every
+   task block gets the clock reading at which it last entered any waiting queue
+   [...], and 0 while free, ready or running. Moving between waiting queues sets
+   it anew." */
+void task_put(struct executive *executive, int block, int place)
+{
+    struct task *task = &executive->task[block];
+    task->place = (uint8_t)place;
+    task->since = place_waits(place) ? executive->clock : 0;
+}
+
 /* The running task goes to another place and the processor has none. */
 void task_stop_running(struct executive *executive, int place)
 {
-    executive->task[executive->running].place = (uint8_t)place;
+    task_put(executive, executive->running, place);
     executive->running = 0;
 }
 
