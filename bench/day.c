@@ -132,6 +132,16 @@ static void play(struct run *run, int player, size_t count)
     run->seconds[player] += (double)(after.tv_sec - before.tv_sec) + (double)(after.tv_nsec - before.tv_nsec) / 1e9;
 }
 
+/* Whether both say of each block since when its task waits. */
+static int same_readings(void)
+{
+    int same = 1;
+    for (int block = 1; block <= TASKS; block++) {
+        same = same && tables.tasks[block].since == second.task[block].since;
+    }
+    return same;
+}
+
 /* Every answer of the two, and what can be seen of both tables. */
 static void compare(struct run *run, size_t count)
 {
@@ -146,7 +156,8 @@ static void compare(struct run *run, size_t count)
         }
         run->refused += line->refusal != 0;
     }
-    if (tables.clock != second.clock || tables.on != second.on || tables.signalled != second.signalled || tables.channel != second.channel) {
+    if (tables.clock != second.clock || tables.on != second.on || tables.signalled != second.signalled || tables.channel != second.channel
+        || !same_readings()) {
         fail("the two programs have different tables");
     }
 }

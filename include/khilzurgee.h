@@ -22,7 +22,7 @@
    the two and not both: each has the two checks. Both are for x86-64 Linux
    and need nothing but the C library.
 
-   The stack: a call was measured to take up to 32,520 bytes of it, a load
+   The stack: a call was measured to take up to 32,536 bytes of it, a load
    2,184 and the image check 920. 'bench/stack' measures it again, and fails
    where a function takes more than 40 KiB. */
 #ifndef KHILZURGEE_H
@@ -99,14 +99,15 @@ uint16_t khilzurgee_block_check(const uint8_t *block, size_t length);
 
    Stored tables are the bytes of this struct, on a little-endian machine. Keep
    KHILZURGEE_TABLES_VERSION beside them, and read back none of another version:
-   it changes with the layout. Nothing else need be checked, for the tables may
-   hold anything.
+   it changes with the layout. The length does not tell versions apart: tables of
+   version 2 have 1,136 bytes too. Nothing else need be checked, for the tables
+   may hold anything.
 
    Block 0 names no block, level 0 no level: slot 0 of 'tasks', 'requests' and
    'pools' is not used, and is zero. */
 
 /* The form of stored tables. */
-#define KHILZURGEE_TABLES_VERSION 2
+#define KHILZURGEE_TABLES_VERSION 3
 
 enum {
     KHILZURGEE_TABLES_LENGTH = 1136,
@@ -133,17 +134,37 @@ struct khilzurgee_directory {
     uint32_t every;   /* N */
 };
 
+/* Where a task block is. The task waits in 3 to 8, and 'since' of its block is
+   the clock reading at which it entered that place: it has waited there for
+   clock - since cycles. Going from one of these places to another sets it anew;
+   being passed over in a queue changes nothing.
+
+   Where the task does not wait, 'since' is 0. A wait that began at clock 0 reads
+   0 too: the place says whether a task waits, and not the reading. */
+enum khilzurgee_place {
+    KHILZURGEE_PLACE_FREE = 0,    /* the block is nobody's */
+    KHILZURGEE_PLACE_RUNNING = 1, /* the running task's */
+    KHILZURGEE_PLACE_READY = 2,   /* in the ready queue of its level */
+    KHILZURGEE_PLACE_CORE = 3,    /* waits in the core queue of its level */
+    KHILZURGEE_PLACE_EVENT = 4,   /* waits in the event queue */
+    KHILZURGEE_PLACE_TIME = 5,    /* waits in the time queue */
+    KHILZURGEE_PLACE_LINK = 6,    /* waits in LINK, for its child */
+    KHILZURGEE_PLACE_CHECK = 7,   /* waits in CHECK, for a request of its own */
+    KHILZURGEE_PLACE_ENDING = 8   /* waits as ending, for its last request */
+};
+
 struct khilzurgee_task {
-    uint64_t events;  /* and 'count' of them: the condition of an event waiter */
-    uint32_t time;    /* the condition of a time waiter */
-    uint32_t count;
-    uint16_t program; /* the number of its module */
-    uint16_t request; /* what a task in CHECK waits for */
-    uint8_t place;    /* 0 free, 1 running, 2 ready, 3 core queue, 4 event queue,
-                         5 time queue, 6 in LINK, 7 in CHECK, 8 ending */
+    uint64_t events; /* and 'count' of them: the condition of an event waiter */
+    uint32_t time;   /* the condition of a time waiter */
+    uint32_t since;  /* when the task entered the place in which it waits, by the
+                        clock and never past it; 0 where it does not wait */
+    uint16_t count;
+    uint8_t program; /* the number of its module */
+    uint8_t request; /* what a task in CHECK waits for */
+    uint8_t place;   /* one of enum khilzurgee_place */
     uint8_t parent;
-    uint8_t core;     /* 0 not granted, 1 holds its run, 2 given back */
-    uint8_t start;    /* of its run */
+    uint8_t core;    /* 0 not granted, 1 holds its run, 2 given back */
+    uint8_t start;   /* of its run */
 };
 
 struct khilzurgee_request {
@@ -265,9 +286,10 @@ KHILZURGEE_LAST(khilzurgee_directory, every, 272);
 
 KHILZURGEE_FIRST(khilzurgee_task, events);
 KHILZURGEE_NEXT(khilzurgee_task, events, time, 8);
-KHILZURGEE_NEXT(khilzurgee_task, time, count, 12);
-KHILZURGEE_NEXT(khilzurgee_task, count, program, 16);
-KHILZURGEE_NEXT(khilzurgee_task, program, request, 18);
+KHILZURGEE_NEXT(khilzurgee_task, time, since, 12);
+KHILZURGEE_NEXT(khilzurgee_task, since, count, 16);
+KHILZURGEE_NEXT(khilzurgee_task, count, program, 18);
+KHILZURGEE_NEXT(khilzurgee_task, program, request, 19);
 KHILZURGEE_NEXT(khilzurgee_task, request, place, 20);
 KHILZURGEE_NEXT(khilzurgee_task, place, parent, 21);
 KHILZURGEE_NEXT(khilzurgee_task, parent, core, 22);

@@ -54,6 +54,7 @@ static struct khilzurgee_line call(struct khilzurgee_tables *t, uint8_t code,
 
 enum {
     LINK = 5,
+    END = 6,
     SCHEDULE = 7,
     SIGNAL = 9,
     TEST_EVENT = 10,
@@ -61,6 +62,7 @@ enum {
     WRITE = 14,
     CHECK = 15,
     TIMER = 32,
+    IO_DONE = 33,
     START = 35
 };
 
@@ -89,15 +91,27 @@ static uint8_t known(struct khilzurgee_tables *t, uint8_t event)
     return call(t, TEST_EVENT, 0, event, 0, 0, 0).result;
 }
 
+/* The place of a task block, and the reading of one that waits or 0. */
+static void in_place(const struct khilzurgee_tables *t, unsigned block, uint8_t place, uint32_t since)
+{
+    char what[40];
+    snprintf(what, sizeof what, "the place of block %u", block);
+    is(what, t->tasks[block].place, place);
+    snprintf(what, sizeof what, "the reading of block %u", block);
+    is(what, t->tasks[block].since, since);
+}
+
 /* Task 1 starts and links to task 2, which signals 63 on and 0 off, and
    schedules 3 on events, 4 by time, 5 with core beside its own and 6, for which
    there is none; it reads, writes and waits in CHECK for the write, and 5
-   runs. */
+   runs. The clock goes on in between: 1 at the link, 2 at the first two that
+   are scheduled, 3 at the others, 4 at the end. */
 static void after_calls(struct khilzurgee_tables *t)
 {
     call(t, TIMER, 0, 0, 0, 0, 0);
     call(t, START, 0, 1, 0, 0, 0);
     is("the child's block", call(t, LINK, 0, 0, 0, 0, 0).result, 2);
+    call(t, TIMER, 0, 0, 0, 0, 0);
     call(t, SIGNAL, 0, 63, 1, 0, 0);
     call(t, SIGNAL, 0, 0, 0, 0, 0);
     is("an event that is off", known(t, 0), KHILZURGEE_EVENT_OFF);
@@ -105,15 +119,18 @@ static void after_calls(struct khilzurgee_tables *t)
     is("an event that was never signalled", known(t, 3), KHILZURGEE_EVENT_NEVER_SIGNALLED);
     call(t, SCHEDULE, 1, 1, 2, 0, 9);
     call(t, SCHEDULE, 2, 1, 0, 0x01020304, 0);
+    call(t, TIMER, 0, 0, 0, 0, 0);
     call(t, SCHEDULE, 0, 0, 0, 0, 0);
     call(t, SCHEDULE, 0, 0, 0, 0, 0);
     is("the first request", call(t, READ, 0, 200, 0, 0x1234, 0).result, 1);
     is("the second request", call(t, WRITE, 0, 201, 0, 0x5678, 0).result, 2);
     IS(t->running, 2);
-    IS(t->tasks[2].place, 1);
+    in_place(t, 2, KHILZURGEE_PLACE_RUNNING, 0);
+    in_place(t, 5, KHILZURGEE_PLACE_READY, 0);
+    call(t, TIMER, 0, 0, 0, 0, 0);
     call(t, CHECK, 0, 2, 0, 0, 0);
 
-    IS(t->clock, 1);
+    IS(t->clock, 4);
     IS(t->on, 0x8000000000000000u);
     IS(t->signalled, 0x8000000000000001u);
     IS(t->running, 5);
@@ -121,20 +138,21 @@ static void after_calls(struct khilzurgee_tables *t)
     IS(t->free_tasks, 0x1ffff80u);
     IS(t->free_requests, 0x1fff8u);
     IS(t->pools[2], 0xfffffffffffffffu);
-    IS(t->tasks[1].place, 6);
+    in_place(t, 1, KHILZURGEE_PLACE_LINK, 1);
     IS(t->tasks[1].program, 1);
-    IS(t->tasks[2].place, 7);
+    in_place(t, 2, KHILZURGEE_PLACE_CHECK, 4);
     IS(t->tasks[2].parent, 1);
     IS(t->tasks[2].core, 1);
     IS(t->tasks[2].request, 2);
-    IS(t->tasks[3].place, 4);
+    in_place(t, 3, KHILZURGEE_PLACE_EVENT, 2);
     IS(t->tasks[3].count, 2);
     IS(t->tasks[3].events, 9);
-    IS(t->tasks[4].place, 5);
+    in_place(t, 4, KHILZURGEE_PLACE_TIME, 2);
     IS(t->tasks[4].time, 0x01020304);
-    IS(t->tasks[5].place, 1);
+    in_place(t, 5, KHILZURGEE_PLACE_RUNNING, 0);
     IS(t->tasks[5].start, 30);
-    IS(t->tasks[6].place, 3);
+    in_place(t, 6, KHILZURGEE_PLACE_CORE, 3);
+    in_place(t, 7, KHILZURGEE_PLACE_FREE, 0);
     IS(t->requests[1].place, 2);
     IS(t->requests[1].owner, 2);
     IS(t->requests[1].device, 200);
@@ -161,6 +179,56 @@ static void after_waiters(struct khilzurgee_tables *t)
     IS(t->threads.first[7], 4);
     IS(t->threads.first[8], KHILZURGEE_TASKS + 2);
     IS(t->threads.last[5], 6);
+}
+
+/* Task 10 goes from the time queue to the core queue, behind 6, and its reading
+   is the new clock. Task 5 waits as ending for a read; 2 has its write, and waits
+   no more. When 5 has finished, 6 gets its core, and 10 waits as before. */
+static void after_moves(struct khilzurgee_tables *t)
+{
+    is("a task by time", call(t, SCHEDULE, 2, 0, 0, 5, 0).result, 10);
+    in_place(t, 10, KHILZURGEE_PLACE_TIME, 4);
+    call(t, TIMER, 0, 0, 0, 0, 0);
+    IS(t->clock, 5);
+    in_place(t, 10, KHILZURGEE_PLACE_CORE, 5);
+    in_place(t, 6, KHILZURGEE_PLACE_CORE, 3);
+    is("the third request", call(t, READ, 0, 202, 0, 1, 0).result, 3);
+    call(t, END, 0, 0, 0, 0, 0);
+    in_place(t, 5, KHILZURGEE_PLACE_ENDING, 5);
+    in_place(t, 7, KHILZURGEE_PLACE_RUNNING, 0);
+    call(t, IO_DONE, 0, 0, 0, 0, 0);
+    in_place(t, 2, KHILZURGEE_PLACE_CHECK, 4);
+    call(t, IO_DONE, 0, 0, 0, 0, 0);
+    in_place(t, 2, KHILZURGEE_PLACE_READY, 0);
+    call(t, TIMER, 0, 0, 0, 0, 0);
+    call(t, IO_DONE, 0, 0, 0, 0, 0);
+    in_place(t, 5, KHILZURGEE_PLACE_FREE, 0);
+    in_place(t, 6, KHILZURGEE_PLACE_READY, 0);
+    in_place(t, 10, KHILZURGEE_PLACE_CORE, 5);
+    IS(t->clock - t->tasks[10].since, 1);
+}
+
+/* A block's reading may be at most the clock, and is 0 where it does not wait. */
+static void with_reading(const struct khilzurgee_tables *good, unsigned block, uint32_t since, uint8_t refusal)
+{
+    static const uint8_t timer[KHILZURGEE_CALL_LENGTH] = {TIMER};
+    char what[60];
+    struct khilzurgee_tables t = *good;
+    t.tasks[block].since = since;
+    snprintf(what, sizeof what, "the refusal with the reading %lu in block %u", (unsigned long)since, block);
+    is(what, khilzurgee_advance(&t, timer, sizeof timer).refusal, refusal);
+}
+
+static void readings(const struct khilzurgee_tables *good)
+{
+    with_reading(good, 10, 6, 0);
+    with_reading(good, 10, 7, KHILZURGEE_TABLES_BROKEN);
+    with_reading(good, 10, UINT32_MAX, KHILZURGEE_TABLES_BROKEN);
+    with_reading(good, 1, 0, 0);
+    with_reading(good, 7, 1, KHILZURGEE_TABLES_BROKEN); /* it runs */
+    with_reading(good, 2, 1, KHILZURGEE_TABLES_BROKEN); /* it is ready */
+    with_reading(good, 5, 1, KHILZURGEE_TABLES_BROKEN); /* it is free */
+    with_reading(good, 0, 1, KHILZURGEE_TABLES_BROKEN); /* it is no block */
 }
 
 /* Tables may hold anything: those that break a rule are answered by 9, and are
@@ -201,6 +269,8 @@ int main(void)
     after_load(&tables);
     after_calls(&tables);
     after_waiters(&tables);
+    after_moves(&tables);
+    readings(&tables);
     broken(&tables);
     if (!wrong) {
         printf("every field of the tables is where the header has it\n");

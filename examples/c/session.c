@@ -2,7 +2,11 @@
    of 16 bytes each, and prints the three numbers of the load and of each call,
    a line each, as the desk does.
 
-   usage: session FILE        - for FILE is the standard input
+   usage: session [--since] FILE        - for FILE is the standard input
+
+   With --since the readings that a call has changed stand behind its numbers, in
+   the order of the task blocks: 4@17 where the task of block 4 waits since the
+   clock read 17, 4@0 where it waits no more.
 
    Exit status: 0 the session was played, 1 the image was refused, 2 something
    could not be read or written. */
@@ -32,12 +36,34 @@ static int fail(const char *name, const char *doing)
 
 static void print(struct khilzurgee_line line)
 {
-    printf("%u %u %u\n", (unsigned)line.refusal, (unsigned)line.result, (unsigned)line.running);
+    printf("%u %u %u", (unsigned)line.refusal, (unsigned)line.result, (unsigned)line.running);
+}
+
+/* The readings that differ between the blocks before a call and after it. */
+static void print_since(const struct khilzurgee_task *before, const struct khilzurgee_task *after)
+{
+    for (unsigned block = 1; block <= KHILZURGEE_TASKS; block++) {
+        if (after[block].since != before[block].since) {
+            printf(" %u@%lu", block, (unsigned long)after[block].since);
+        }
+    }
+}
+
+/* One call, and its line. */
+static void advance(struct khilzurgee_tables *tables, const uint8_t *call, size_t length, int since)
+{
+    struct khilzurgee_task before[KHILZURGEE_TASKS + 1];
+    memcpy(before, tables->tasks, sizeof before);
+    print(khilzurgee_advance(tables, call, length));
+    if (since) {
+        print_since(before, tables->tasks);
+    }
+    printf("\n");
 }
 
 /* The load, and the calls where it is accepted. Fewer than 16 bytes at the end
    are a call too: it is refused by 10. */
-static int play(FILE *file)
+static int play(FILE *file, int since)
 {
     static struct khilzurgee_tables tables; /* all that the executive keeps */
     uint8_t image[KHILZURGEE_IMAGE_LENGTH];
@@ -46,19 +72,20 @@ static int play(FILE *file)
     size_t length = fread(image, 1, sizeof image, file);
     struct khilzurgee_line begun = khilzurgee_load(&tables, image, length);
     print(begun);
+    printf("\n");
     if (begun.refusal != KHILZURGEE_ACCEPTED) {
         return REFUSED;
     }
     while ((length = fread(call, 1, sizeof call, file)) > 0) {
-        print(khilzurgee_advance(&tables, call, length));
+        advance(&tables, call, length, since);
     }
     return PLAYED;
 }
 
-static int play_file(FILE *file, const char *name)
+static int play_file(FILE *file, const char *name, int since)
 {
     errno = 0;
-    int status = play(file);
+    int status = play(file, since);
     if (ferror(file)) {
         return fail(name, "be read");
     }
@@ -71,19 +98,21 @@ static int play_file(FILE *file, const char *name)
 
 int main(int argc, char **argv)
 {
-    if (argc != 2) {
-        fprintf(stderr, "usage: session FILE (- for the standard input)\n");
+    int since = argc == 3 && strcmp(argv[1], "--since") == 0;
+    if (argc != 2 + since) {
+        fprintf(stderr, "usage: session [--since] FILE (- for the standard input)\n");
         return FAILED;
     }
-    if (strcmp(argv[1], "-") == 0) {
-        return play_file(stdin, "standard input");
+    const char *name = argv[1 + since];
+    if (strcmp(name, "-") == 0) {
+        return play_file(stdin, "standard input", since);
     }
     errno = 0;
-    FILE *file = fopen(argv[1], "rb");
+    FILE *file = fopen(name, "rb");
     if (file == NULL) {
-        return fail(argv[1], "be opened");
+        return fail(name, "be opened");
     }
-    int status = play_file(file, argv[1]);
+    int status = play_file(file, name, since);
     fclose(file);
     return status;
 }

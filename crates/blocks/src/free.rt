@@ -29,8 +29,9 @@ fn new_task(program: u8, parent: u8) -> Task
     Task {
         events: 0,
         time: 0,
+        since: 0,
         count: 0,
-        program: program as u16,
+        program: program,
         request: 0,
         place: FREE,
         parent: parent,

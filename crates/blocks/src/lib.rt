@@ -18,13 +18,15 @@ ghost use Rattle.tables.specs.Held.{Shows};
 use image::Entry;
 use tables::Tables;
 use tables::Task;
+use tables::places;
 
-// A task block in a place that gives its last four fields no meaning.
-pub fn moving(task: Task, place: u8) -> Task
-    ensures { λ r. ⌜ r ≡ moving task place ⌝ }
+// A task block that is put into a place when the clock shows `clock`; the place gives what is waited for no meaning.
+pub fn moving(clock: u32, task: Task, place: u8) -> Task
+    ensures { λ r. ⌜ r ≡ moving clock task place ⌝ }
 {
     let mut x = task;
     x.place = place;
+    x.since = places::since(clock, place);
     x.count = 0;
     x.events = 0;
     x.time = 0;

@@ -14,11 +14,11 @@ use tables::names::DONE;
 use tables::names::IN_CHECK;
 
 // A task block in CHECK, which waits for the request r.
-fn awaiting(task: Task, r: u8) -> Task
-    ensures { λ x. ⌜ x ≡ awaitingRequest task r ⌝ }
+fn awaiting(clock: u32, task: Task, r: u8) -> Task
+    ensures { λ x. ⌜ x ≡ awaitingRequest clock task r ⌝ }
 {
-    let mut x = blocks::moving(task, IN_CHECK);
-    x.request = r as u16;
+    let mut x = blocks::moving(clock, task, IN_CHECK);
+    x.request = r;
     x
 }
 
@@ -29,7 +29,7 @@ fn wait_for(t: Tables, r: u8) -> Tables
 {
     let mut u = t;
     let k = u.running;
-    let x = awaiting(u.tasks[k as usize], r);
+    let x = awaiting(u.clock, u.tasks[k as usize], r);
     u.tasks[k as usize] = x;
     u.running = 0;
     u

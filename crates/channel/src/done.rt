@@ -42,7 +42,7 @@ pub fn io_done(t: Tables) -> Tables
     let k = q.owner;
     let x = t.tasks[k as usize];
     let left = leave_channel(t);
-    if (x.place == IN_CHECK) & (x.request == r as u16) {
+    if (x.place == IN_CHECK) & (x.request == r) {
         let freed = free::free_request(left, r);
         let ready = ready::make_ready(freed, k);
         return queue::next(ready);

@@ -82,7 +82,7 @@ pub zeros : tabled allZero ≡ record {
   freeTasks = 0;
   freeRequests = 0;
   pools = replicate 4 0;
-  tasks = replicate 25 (record { place = 0; program = 0; parent = 0; core = 0; start = 0; count = 0; events = 0; time = 0; request = 0 });
+  tasks = replicate 25 (record { place = 0; program = 0; parent = 0; core = 0; start = 0; count = 0; events = 0; time = 0; since = 0; request = 0 });
   requests = replicate 17 (record { place = 0; owner = 0; device = 0; command = 0; bytes = 0 });
   threads = record { fwd = replicate (suc BLOCKS) 0; back = replicate (suc BLOCKS) 0; first = replicate 9 0; last = replicate 9 0 };
 }

@@ -6,3 +6,4 @@ pub mod Dispatched
 pub mod Overtakes
 pub mod UnderRead
 pub mod Signalled
+pub mod Waited

@@ -42,7 +42,7 @@ pub fn end(t: Tables, k: u8) -> Tables
         return finish(t, k);
     }
     let mut u = t;
-    let x = blocks::moving(u.tasks[k as usize], ENDING);
+    let x = blocks::moving(u.clock, u.tasks[k as usize], ENDING);
     u.tasks[k as usize] = x;
     u
 }

@@ -4,14 +4,15 @@ use mathlib.Core.Path.{_≡_, refl, sym}
 use mathlib.Core.Logic.{_≢_, ⊎-elim}
 use Prim.Native.Nat.{ℕ}
 use lib.Dec.{eqb, leb, ltb}
-use borrow.Author.Tests.{ne-eqb}
+use native.Mathlib.Omega.{arith}
+use borrow.Author.Tests.{ne-eqb, le-leb}
 use Rattle.words.proofs.Truth.{tested, and-assoc, and-true, or-none}
 use Rattle.words.specs.Words.{if_then_else_, _implies_}
 use Rattle.tables.specs.declared.Task.{Task}
 use Rattle.tables.specs.declared.Request.{Request}
-use Rattle.tables.specs.Blocks.{InCore, InEvent, InTime, InCheck}
+use Rattle.tables.specs.Blocks.{InCore, InEvent, InTime, InCheck, waitsIn}
 use Rattle.meaning.specs.Rules.{queueFor, blankTask, requestInRange, blankRequest}
-use Rattle.fields.specs.Blocks.{fieldsRight, coreRight, ownRight, placeRight, waiterRight, pendingRight, requestRight}
+use Rattle.fields.specs.Blocks.{fieldsRight, coreRight, ownRight, placeRight, waiterRight, sinceRight, pendingRight, requestRight}
 use Rattle.meaning.proofs.Blanks.{task-blank, request-blank}
 
 -- ---- Tests of which one is known.
@@ -36,15 +37,19 @@ is-true : (b : Bool) → Bool·beq b true ≡ b
 is-true true = refl
 is-true false = refl
 
-ruleset known = (low, and-true, and-none, or-all, or-none, is-false, is-true)
+-- 0 is at most any number
+least : (n : ℕ) → leb 0 n ≡ true
+least n = le-leb 0 n (omega arith)
+
+ruleset known = (low, least, and-true, and-none, or-all, or-none, is-false, is-true)
 
 ruleset flat = (and-true, and-assoc)
 
 -- ---- A free task block: where it is zero, its fields keep every rule, and what is left is where it stands.
 
-module _ (modules defined on stands level units : ℕ) (runs free own some : Bool) (x : Task) where
+module _ (modules defined on clock stands level units : ℕ) (runs free own some : Bool) (x : Task) where
   abbrev whole : Bool
-  whole = fieldsRight modules units x && placeRight stands level runs free x && waiterRight defined on x && pendingRight own some x
+  whole = fieldsRight modules units x && placeRight stands level runs free x && waiterRight defined on x && pendingRight own some x && leb (x .since) clock
 
   of-free : x .place ≡ 0 → (b : Bool) → blankTask x ≡ b → (eqb stands 9 && not runs && free && blankTask x) ≡ whole
   unfolding waiterRight queueFor
@@ -95,28 +100,30 @@ module _ (units defined on : ℕ) (own some : Bool) (x : Task) where
       rw (i, ne-eqb (x .place) 3 c, ne-eqb (x .place) 4 e, ne-eqb (x .place) 5 t, ne-eqb (x .place) 7 k, ne-eqb (x .place) 8 d)
       (simp known (simp flat))
 
--- ---- A used task block: the tests that every place has stand before those of its place. Three stand elsewhere among the rules; what stands between them stays.
+-- ---- A used task block: the tests that every place has stand before those of its place. Four stand elsewhere among the rules; what stands between them stays.
 
-in-order : (place request stands a b c d e : Bool) → (place && a && request && b && c && d && stands && e) ≡ (a && b && stands && place && c && request && d && e)
-in-order true true true a b c d e = simp flat
-in-order true true false a b c d e = simp and-none
-in-order true false z a b c d e = simp and-none
-in-order false y z a b c d e = simp and-none
+in-order : (place request stands since a b c d e f g : Bool)
+    → (place && a && request && b && c && d && since && e && stands && f && g) ≡ (a && b && stands && place && c && request && d && e && f && since && g)
+in-order true true true true a b c d e f g = simp flat
+in-order true true true false a b c d e f g = simp and-none
+in-order true true false w a b c d e f g = simp and-none
+in-order true false z w a b c d e f g = simp and-none
+in-order false y z w a b c d e f g = simp and-none
 
-module _ (modules defined on stands level units : ℕ) (runs free own some : Bool) (x : Task) where
+module _ (modules defined on clock stands level units : ℕ) (runs free own some : Bool) (x : Task) where
   pub used-whole : x .place ≢ 0
       → (leb (x .parent) 24 && leb (x .core) 2 && ltb (x .program) modules && coreRight units x && placeRight stands level runs free x
-      && (ownRight units x && waiterRight defined on x && pendingRight own some x))
-      ≡ (fieldsRight modules units x && placeRight stands level runs free x && waiterRight defined on x && pendingRight own some x)
+      && (ownRight units x && waiterRight defined on x && pendingRight own some x) && sinceRight clock x)
+      ≡ (fieldsRight modules units x && placeRight stands level runs free x && waiterRight defined on x && pendingRight own some x && leb (x .since) clock)
   used-whole n =
       let needs = ltb 0 units && eqb (x .core) 0 in
       rw (ne-eqb (x .place) 0 n) (simp flat (simp flat at (sym (in-order (leb (x .place) 8) (leb (x .request) 16)
-      (eqb stands (queueFor (x .place) level) && Bool·beq runs (eqb (x .place) 1) && Bool·beq free false)
+      (eqb stands (queueFor (x .place) level) && Bool·beq runs (eqb (x .place) 1) && Bool·beq free false) (not (waitsIn (x .place)) implies eqb (x .since) 0)
       (leb (x .parent) 24 && leb (x .core) 2) (ltb (x .program) modules && coreRight units x)
       ((not (eqb (x .place) InEvent) implies (eqb (x .count) 0 && eqb (x .events) 0)) && (not (eqb (x .place) InTime) implies eqb (x .time) 0))
-      ((not (eqb (x .place) InCheck) implies eqb (x .request) 0)
-      && ((eqb (x .place) InCore implies needs) && (needs implies (eqb (x .place) InCore || eqb (x .place) InEvent || eqb (x .place) InTime))))
-      (waiterRight defined on x && pendingRight own some x)))))
+      (not (eqb (x .place) InCheck) implies eqb (x .request) 0)
+      ((eqb (x .place) InCore implies needs) && (needs implies (eqb (x .place) InCore || eqb (x .place) InEvent || eqb (x .place) InTime)))
+      (waiterRight defined on x && pendingRight own some x) (leb (x .since) clock)))))
 
 -- ---- A request block.
 

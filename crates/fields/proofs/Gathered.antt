@@ -4,7 +4,7 @@ use mathlib.Core.Path.{_≡_, sym, _∙_}
 use mathlib.Core.List.{List}
 use Prim.Native.Nat.{ℕ, _≤_}
 use native.Mathlib.Omega.{arith}
-use lib.Dec.{eqb}
+use lib.Dec.{eqb, leb}
 use Rattle.words.specs.Words.{_implies_, allOf, someOf, oneTo, standing, has}
 use Rattle.image.specs.declared.Entry.{Entry}
 use Rattle.tables.specs.declared.Tables.{Tables}
@@ -39,14 +39,14 @@ module _ (s : State) (k : ℕ) where
   unfolding taskPasses
   free-turn stands free e =
       e ∙ rw stands
-      (free-whole (s .directory .modules) (s .directory .defined) (s .on) (standing k (s .queues)) (levelOf s k) (unitsOf s k) (eqb (s .running) k)
+      (free-whole (s .directory .modules) (s .directory .defined) (s .on) (s .clock) (standing k (s .queues)) (levelOf s k) (unitsOf s k) (eqb (s .running) k)
       (has (s .freeTasks) k) (pends k (requestAt s (taskAt s k .request))) some (taskAt s k) free)
 
   pub used-turn : (own : Bool) {m : ℕ} {e : Entry} {owns b : Bool} → m ≡ standing k (s .queues) → e ≡ entryFor s k
       → (eqb (taskAt s k .place) InCheck implies own) ≡ (eqb (taskAt s k .place) InCheck implies pends k (requestAt s (taskAt s k .request)))
       → owns ≡ some
       → b ≡ (fieldsRight (s .directory .modules) (e .units) (taskAt s k) && placeRight m (e .level) (eqb (s .running) k) (has (s .freeTasks) k) (taskAt s k)
-      && waiterRight (s .directory .defined) (s .on) (taskAt s k) && pendingRight own owns (taskAt s k))
+      && waiterRight (s .directory .defined) (s .on) (taskAt s k) && pendingRight own owns (taskAt s k) && leb (taskAt s k .since) (s .clock))
       → b ≡ taskPasses s k
   unfolding taskPasses
   used-turn own stands program asks pend e = e ∙ rw (stands, program, asks, pend)

@@ -10,7 +10,7 @@ use Rattle.words.specs.Words.{if_then_else_, _implies_, allOf, someOf, oneTo, s
 use Rattle.tables.specs.declared.Task.{Task}
 use Rattle.tables.specs.declared.Request.{Request}
 use Rattle.tables.specs.declared.Tables.{Tables}
-use Rattle.tables.specs.Blocks.{Free, Running, InCore, InEvent, InTime, InCheck, Ending, Queued, OnChannel, NotGranted, HoldsRun, noRequest, taskBlocks, requestBlocks}
+use Rattle.tables.specs.Blocks.{Free, Running, InCore, InEvent, InTime, InCheck, Ending, Queued, OnChannel, NotGranted, HoldsRun, noRequest, waitsIn, taskBlocks, requestBlocks}
 use Rattle.tables.specs.State.{State, channelQueue, node, taskAt, requestAt, poolAt, levelOf, unitsOf, read}
 use Rattle.meaning.specs.Rules.{directoryPasses, taskInRange, requestInRange, queueFor, blankTask, blankRequest, clearTask, clearRequest}
 use Rattle.threads.specs.Threads.{BLOCKS}
@@ -57,6 +57,10 @@ waiterRight defined on x =
     implies (eqb (bitAnd (x .events) defined) (x .events) && leb 1 (x .count) && leb (x .count) (size (x .events))
     && not (leb (x .count) (size (bitAnd (x .events) on))))
 
+-- E6: the reading is 0 where the place does not wait, and "never past the clock"
+abbrev pub sinceRight : ℕ → Task → Bool
+sinceRight clock x = (not (waitsIn (x .place)) implies eqb (x .since) 0) && leb (x .since) clock
+
 -- the request q is the task k's, and queued or on the channel
 abbrev pub pends : ℕ → Request → Bool
 pends k q = eqb (q .owner) k && (eqb (q .place) Queued || eqb (q .place) OnChannel)
@@ -72,6 +76,7 @@ taskPasses s k =
     && placeRight (standing k (s .queues)) (levelOf s k) (eqb (s .running) k) (has (s .freeTasks) k) x
     && waiterRight (s .directory .defined) (s .on) x
     && pendingRight (pends k (requestAt s (x .request))) (someOf (λ r. pends k (requestAt s r)) (oneTo requestBlocks)) x
+    && leb (x .since) (s .clock)
 
 -- ---- A request block: its fields, its place, and "a used request's owner is a used task".
 

@@ -3,12 +3,13 @@ ghost use mathlib.Core.Path.{_≡_};
 ghost use mathlib.Core.Bool.{not, _&&_, _||_};
 ghost use mathlib.Core.Logic.{_≢_};
 ghost use Prim.Native.Nat.{ℕ, _≤_};
-ghost use lib.Dec.{eqb};
+ghost use lib.Dec.{eqb, leb};
 ghost use Rattle.words.specs.Words.{if_then_else_, has};
 ghost use Rattle.meaning.specs.Rules.{requestInRange, queueFor, blankTask, blankRequest};
-ghost use Rattle.fields.specs.Blocks.{fieldsRight, coreRight, ownRight, placeRight, waiterRight, pends, pendingRight, usedBy, requestRight};
+ghost use Rattle.fields.specs.Blocks.{fieldsRight, coreRight, ownRight, placeRight, waiterRight, sinceRight, pends, pendingRight, usedBy, requestRight};
 use tables::Request;
 use tables::Task;
+use tables::places;
 use words::sets32;
 use words::sets64;
 
@@ -26,6 +27,7 @@ pub fn blank_task(x: Task) -> bool
         & (x.count == 0)
         & (x.events == 0)
         & (x.time == 0)
+        & (x.since == 0)
         & (x.request == 0)
 }
 
@@ -84,8 +86,8 @@ fn waiter_right(defined: u64, on: u64, x: Task) -> bool
     }
     (x.events & defined == x.events)
         & (1 <= x.count)
-        & (x.count <= sets64::ones(x.events))
-        & !(x.count <= sets64::ones(x.events & on))
+        & (x.count as u32 <= sets64::ones(x.events))
+        & !(x.count as u32 <= sets64::ones(x.events & on))
 }
 
 // The task waits for no events, no time and no request.
@@ -93,6 +95,13 @@ fn no_condition(x: Task) -> bool
     ensures { λ r. ⌜ r ≡ (eqb (x .count) 0 && eqb (x .events) 0 && eqb (x .time) 0 && eqb (x .request) 0) ⌝ }
 {
     (x.count == 0) & (x.events == 0) & (x.time == 0) & (x.request == 0)
+}
+
+// Its reading is 0 where its place does not wait, and never past the clock.
+fn since_right(clock: u32, x: Task) -> bool
+    ensures { λ r. ⌜ r ≡ sinceRight clock x ⌝ }
+{
+    (places::waits(x.place) | (x.since == 0)) & (x.since <= clock)
 }
 
 // What the tables say of a used task block besides its fields: the level and the units of its module; the queue in which it stands; whether it runs;
@@ -129,9 +138,9 @@ fn own_right(defined: u64, on: u64, told: Told, x: Task) -> bool
 }
 
 // A used block keeps what is asked in every place, and what its own place asks.
-pub fn used_right(modules: u32, defined: u64, on: u64, told: Told, x: Task) -> bool
+pub fn used_right(modules: u32, defined: u64, on: u64, clock: u32, told: Told, x: Task) -> bool
     requires { ⌜ x .place ≢ 0 ⌝ }
-    ensures { λ r. ⌜ r ≡ (fieldsRight modules (told .units) x && placeRight (told .stands) (told .level) (told .runs) (told .free) x && waiterRight defined on x && pendingRight (told .own) (told .pends) x) ⌝ }
+    ensures { λ r. ⌜ r ≡ (fieldsRight modules (told .units) x && placeRight (told .stands) (told .level) (told .runs) (told .free) x && waiterRight defined on x && pendingRight (told .own) (told .pends) x && leb (x .since) clock) ⌝ }
 {
     (x.parent <= 24)
         & (x.core <= 2)
@@ -139,6 +148,7 @@ pub fn used_right(modules: u32, defined: u64, on: u64, told: Told, x: Task) -> b
         & core_right(told.units, x)
         & place_right(told.stands, told.level, told.runs, told.free, x)
         & own_right(defined, on, told, x)
+        & since_right(clock, x)
 }
 
 // ---- Request blocks.

@@ -91,7 +91,7 @@ pub fn tasks(t: Tables, marks: [u8; 41], owners: u32) -> bool
                 own: own,
                 pends: (owners >> k) % 2 == 1,
             };
-            right = right & block::used_right(d.modules, d.defined, t.on, told, x);
+            right = right & block::used_right(d.modules, d.defined, t.on, t.clock, told, x);
         }
     }
     right

@@ -1,4 +1,4 @@
--- What `demands` cites: how a step ends, what is reached, whom an abort takes, that nobody overtakes, that core stays under a read, what is known of an event.
+-- What `demands` cites: how a step ends, what is reached, whom an abort takes, that nobody overtakes, that core stays under a read, what is known of an event, since when a task waits.
 pub mod Loaded
 pub mod Ends
 pub mod Results
@@ -20,3 +20,5 @@ pub mod UnderRead
 pub mod Throughout
 pub mod Signalling
 pub mod Signalled
+pub mod Waiting
+pub mod Waited

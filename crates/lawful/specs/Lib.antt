@@ -5,4 +5,5 @@ pub mod Tables
 pub mod UnderRead
 pub mod Reached
 pub mod Signals
+pub mod Waited
 pub mod InTurn

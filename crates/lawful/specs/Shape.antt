@@ -39,7 +39,7 @@ placeOf s h y = cond (y among h) Hand (taskAt s y .place)
 -- "any field with no meaning in the block's present place, is zero": the block t in the place p, with those fields zero
 abbrev pub cleared : ℕ → Task → Task
 cleared p t =
-    inPlace t p (cond (eqb p InEvent) (t .count) 0) (cond (eqb p InEvent) (t .events) 0) (cond (eqb p InTime) (t .time) 0) (cond (eqb p InCheck) (t .request) 0)
+    inPlace (t .since) t p (cond (eqb p InEvent) (t .count) 0) (cond (eqb p InEvent) (t .events) 0) (cond (eqb p InTime) (t .time) 0) (cond (eqb p InCheck) (t .request) 0)
 
 -- ---- One task block: "every field in range", "A free block, and any field with no meaning in the block's present place, is zero", "core waiters still need
 -- core, and besides them only event and time waiters may", "event waiters pass 13 and 14".
@@ -66,7 +66,7 @@ pub record Pending (l : List Request) (y r : ℕ) : Type 0 where
   pub last : getD l r noRequest .place ≤ 2
 
 -- "each task .. block is in exactly one place": the block y in the place p, in the queue of that place and in no other, running or not, free or not.
--- "CHECK waits for an own pending request", "an ending task has one"
+-- "CHECK waits for an own pending request", "an ending task has one". E6: its reading "is never past the clock"
 pub record Stands (s : State) (p y : ℕ) : Type 0 where
   pub fields : Fields (s .directory) p (taskAt s y)
   pub queued : (q : ℕ) → q < QUEUES → count y (queue s q) ≡ one (queueFor p (levelOf s y)) q
@@ -74,6 +74,7 @@ pub record Stands (s : State) (p y : ℕ) : Type 0 where
   pub freeTasks : bit (s .freeTasks) y ≡ one p Free
   pub checks : p ≡ InCheck → Pending (s .requests) y (taskAt s y .request)
   pub ends : p ≡ Ending → (r : ℕ) × Pending (s .requests) y r
+  pub late : taskAt s y .since ≤ s .clock
 
 -- ---- One request block: "A request block is free, queued, on the channel or done", "a used request's owner is a used task".
 pub record Carried (s : State) (h : List ℕ) (r : ℕ) : Type 0 where

@@ -8,13 +8,13 @@ use lib.Seq.{take-at, take-length, length-take-le}
 use mir.Val.{Val}
 use denote.Laws.{Is}
 use denote.Struct.Laws as LL
-use Rattle.lines.specs.Lines.{textOf, Holds, Adds}
+use Rattle.lines.specs.Lines.{room, textOf, Holds, Adds}
 use Rattle.lines.specs.declared.Line.{Line}
 use Rattle.lines.proofs.Line as L
 use Rattle.lines.proofs.Line.Laws as L′
 
 -- the array is as long as its type says
-pub line-long : (l : Line) (vs : List Val) → Is L.the-row l vs → length (l .bytes) ≡ 512
+pub line-long : (l : Line) (vs : List Val) → Is L.the-row l vs → length (l .bytes) ≡ room
 line-long l vs is = sym (length-map (l .bytes) (λ v. v)) ∙ LL.owed L.the-type L′.the-laws l vs is .0 .1 .0 .1
 
 -- ws, copied behind the first u of xs

@@ -8,6 +8,10 @@ use Rattle.text.specs.Decimals.{spelling}
 use Rattle.calls.specs.declared.Answer.{Answer}
 use Rattle.lines.specs.declared.Line.{Line}
 
+-- how many bytes a line has room for
+abbrev pub room : ℕ
+room = 640
+
 -- the bytes of a line so far
 abbrev pub textOf : Line → List ℕ
 textOf l = take (l .used) (l .bytes)

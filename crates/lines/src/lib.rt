@@ -5,11 +5,14 @@ ghost use Prim.Native.Nat.{_+_, _≤_, _<_};
 ghost use lib.ListN.{length};
 ghost use mathlib.Core.List.{[], _++_};
 ghost use Rattle.text.specs.Decimals.{spelling};
-ghost use Rattle.lines.specs.Lines.{Holds, Adds, Fits, memberOf, membersOf, answerOf};
+ghost use Rattle.lines.specs.Lines.{room, Holds, Adds, Fits, memberOf, membersOf, answerOf};
+
+// How many bytes a line has room for: `room` of specs/Lines.antt.
+const ROOM: usize = 640;
 
 // The bytes, and how many of them there are so far.
 pub struct Line {
-    pub bytes: [u8; 512],
+    pub bytes: [u8; ROOM],
     pub used: usize,
 }
 
@@ -17,7 +20,7 @@ pub fn empty() -> Line
     ensures { λ r. ⌜ Holds r [] 0 ⌝ }
 {
     Line {
-        bytes: [0; 512],
+        bytes: [0; ROOM],
         used: 0,
     }
 }
@@ -33,7 +36,7 @@ pub fn answer(a: Answer) -> Line
 
 // The line with words behind it.
 pub fn text(l: Line, words: &[u8]) -> Line
-    requires { ⌜ l .used + length (now words) ≤ 512 ⌝ }
+    requires { ⌜ l .used + length (now words) ≤ room ⌝ }
     ensures { λ r. ⌜ Adds l (now (words .entry)) r ⌝ }
 {
     let mut bytes = l.bytes;
@@ -47,7 +50,7 @@ pub fn text(l: Line, words: &[u8]) -> Line
 
 // The line with a name behind it, and a number behind that.
 pub fn field(l: Line, name: &[u8], value: u64) -> Line
-    requires { ⌜ l .used + length (now name) + 20 ≤ 512 ⌝ }
+    requires { ⌜ l .used + length (now name) + 20 ≤ room ⌝ }
     ensures { λ r. ⌜ Fits l (now (name .entry) ++ spelling value) (length (now (name .entry)) + 20) r ⌝ }
 {
     let number = decimals::spell(value);
@@ -58,7 +61,7 @@ pub fn field(l: Line, name: &[u8], value: u64) -> Line
 
 // The line with the members of a set behind it, by number, each behind a space.
 pub fn members(l: Line, set: u64) -> Line
-    requires { ⌜ l .used + 210 ≤ 512 ⌝ }
+    requires { ⌜ l .used + 210 ≤ room ⌝ }
     ensures { λ r. ⌜ Fits l (membersOf set 64) 192 r ⌝ }
 {
     let mut r = l;
@@ -72,7 +75,7 @@ pub fn members(l: Line, set: u64) -> Line
 
 // The line with one of them, where it is in the set.
 fn member(l: Line, set: u64, e: u64) -> Line
-    requires { ⌜ (l .used + 21 ≤ 512) × (e < 64) ⌝ }
+    requires { ⌜ (l .used + 21 ≤ room) × (e < 64) ⌝ }
     ensures { λ r. ⌜ Fits l (memberOf set e) 3 r ⌝ }
 {
     if (set >> e) % 2 == 1 {

@@ -19,6 +19,7 @@ task-blank t e =
       count = eqb-true (t .count) 0 (search sides depth 10) i;
       events = eqb-true (t .events) 0 (search sides depth 10) i;
       time = eqb-true (t .time) 0 (search sides depth 10) i;
+      since = eqb-true (t .since) 0 (search sides depth 10) i;
       request = eqb-true (t .request) 0 (search sides depth 10) i;
     }
 

@@ -13,6 +13,7 @@ use Rattle.answers.specs.Answer.{refusalOf}
 use Rattle.image.specs.Directory.{directoryRows}
 use Rattle.image.specs.Load.{directoryOf, loadOf}
 use Rattle.image.proofs.Loads.{good, load-accepted, check-is-load}
+use Rattle.tables.specs.Blocks.{waitsIn}
 use Rattle.tables.specs.State.{loaded, allZero, tabled, read}
 use Rattle.meaning.specs.Conditions.{undefinedIn}
 use Rattle.meaning.specs.Ready.{needsCore}
@@ -32,12 +33,12 @@ read-loaded d = refl
 
 -- A free block has no core, whatever its module's units are.
 free-clear : (d : Directory) → rules.fieldsClear (loaded d) ≡ true
-unfolding loaded rules.fieldsClear allOf oneTo
+unfolding loaded rules.fieldsClear waitsIn _among_ allOf oneTo
 free-clear d = rw or-true
 
 -- All the others compute.
 state-rules : (d : Directory) → firstOf (directoryRows d) ≡ 0 → allTrue (stateRules (loaded d)) ≡ true
-unfolding allTrue stateRules loaded rules.directoryPasses rules.inRange rules.onDefined rules.onSignalled rules.signalledDefined undefinedIn rules.tasksInPlace rules.requestsInPlace rules.queueFor rules.freeSets rules.coreHeld rules.holdsUnit rules.chainsEnd rules.upward rules.idleOnlyIfNoneReady rules.eventsWait rules.coreWaits rules.queuesInOrder rules.ofTheirLevel rules.coreNeeded needsCore rules.eventsPass rules.linked rules.owned rules.checksPending rules.endingPending rules.channelBusy standing _among_ upBy howMany allOf oneTo below
+unfolding allTrue stateRules loaded rules.directoryPasses rules.inRange rules.onDefined rules.onSignalled rules.signalledDefined undefinedIn rules.tasksInPlace rules.requestsInPlace rules.queueFor rules.freeSets rules.coreHeld rules.holdsUnit rules.chainsEnd rules.upward rules.idleOnlyIfNoneReady rules.eventsWait rules.coreWaits rules.neverPast rules.queuesInOrder rules.ofTheirLevel rules.coreNeeded needsCore rules.eventsPass rules.linked rules.owned rules.checksPending rules.endingPending rules.channelBusy standing _among_ upBy howMany allOf oneTo below
 state-rules d e = rw (eq-eqb (firstOf (directoryRows d)) 0 e, free-clear d)
 
 pub loaded-lawful : (d : Directory) → firstOf (directoryRows d) ≡ 0 → rulesHold (tabled (loaded d)) ≡ true

@@ -7,7 +7,7 @@ use lib.Dec.{eqb, leb, ltb}
 use Rattle.words.specs.Words.{if_then_else_, _implies_, standing, has}
 use Rattle.tables.specs.declared.Task.{Task}
 use Rattle.tables.specs.declared.Request.{Request}
-use Rattle.tables.specs.Blocks.{taskBlocks, requestBlocks, Free, Running, InEvent, InTime, InCheck, Ending, Queued, OnChannel, Done, HoldsRun, GaveBack, NotGranted}
+use Rattle.tables.specs.Blocks.{taskBlocks, requestBlocks, Free, Running, InEvent, InTime, InCheck, Ending, Queued, OnChannel, Done, HoldsRun, GaveBack, NotGranted, waitsIn}
 use Rattle.tables.specs.State.{State, channelQueue, node, taskAt, requestAt, poolAt, levelOf, unitsOf}
 use Rattle.threads.specs.Threads.{noQueue}
 use Rattle.meaning.specs.Rules.{everyTask, everyRequest, taskInRange, requestInRange, inRange, queueFor, freeSets, blankTask, blankRequest, clearTask, clearRequest, fieldsClear}
@@ -116,6 +116,7 @@ pub record TaskClear (units : ℕ) (t : Task) : Type 0 where
   pub event : (not (eqb (t .place) InEvent) implies (eqb (t .count) 0 && eqb (t .events) 0)) ≡ true
   pub time : (not (eqb (t .place) InTime) implies eqb (t .time) 0) ≡ true
   pub request : (not (eqb (t .place) InCheck) implies eqb (t .request) 0) ≡ true
+  pub since : (not (waitsIn (t .place)) implies eqb (t .since) 0) ≡ true
 
 module _ (modules units : ℕ) (t : Task) where
   pub task-range : taskInRange modules units t ≡ true → TaskRange modules units t

@@ -23,6 +23,7 @@ pub record KeepsEach (s : State) : Type 0 where
   pub owned : rules.owned s ≡ true
   pub checksPending : rules.checksPending s ≡ true
   pub endingPending : rules.endingPending s ≡ true
+  pub neverPast : rules.neverPast s ≡ true
 
 -- all rules
 pub record Keeps (s : State) : Type 0 where

@@ -30,14 +30,14 @@ holds s c =
 
 -- "Otherwise the task joins the event queue, by arrival,"
 unfoldable pub awaitsEvents : State → ℕ → Call → State
-awaitsEvents s k c = joining (withTask s k (awaitingEvents (taskAt s k) (c .value) (c .events))) eventQueue k
+awaitsEvents s k c = joining (withTask s k (awaitingEvents (s .clock) (taskAt s k) (c .value) (c .events))) eventQueue k
 
 -- "or the time queue, by time and then arrival."
 unfoldable pub inTime : State → ℕ → State
 inTime s k = withQueue s timeQueue (insertedBy (λ a. taskAt s a .time) k (queue s timeQueue))
 
 unfoldable pub awaitsTime : State → ℕ → Call → State
-awaitsTime s k c = inTime (withTask s k (awaitingTime (taskAt s k) (dueOf s c))) k
+awaitsTime s k c = inTime (withTask s k (awaitingTime (s .clock) (taskAt s k) (dueOf s c))) k
 
 unfoldable pub waiting : State → ℕ → Call → State
 waiting s k c = if eqb (c .kind) 1 then awaitsEvents s k c else awaitsTime s k c

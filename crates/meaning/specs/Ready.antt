@@ -11,7 +11,7 @@ use Rattle.tables.specs.State.{State, readyQueue, coreQueue, withRunning, withP
 
 -- a task block in a new place
 abbrev pub placed : State → ℕ → ℕ → State
-placed s k p = withTask s k (moving (taskAt s k) p)
+placed s k p = withTask s k (moving (s .clock) (taskAt s k) p)
 
 -- ---- Core.
 

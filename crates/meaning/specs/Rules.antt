@@ -14,7 +14,7 @@ use Rattle.image.specs.Directory.{directoryRows}
 use Rattle.tables.specs.declared.Task.{Task}
 use Rattle.tables.specs.declared.Request.{Request}
 use Rattle.tables.specs.declared.Tables.{Tables}
-use Rattle.tables.specs.Blocks.{taskBlocks, requestBlocks, Free, Running, Ready, InCore, InEvent, InTime, InLink, InCheck, Ending, Queued, OnChannel, Done, HoldsRun, GaveBack, NotGranted}
+use Rattle.tables.specs.Blocks.{taskBlocks, requestBlocks, Free, Running, Ready, InCore, InEvent, InTime, InLink, InCheck, Ending, Queued, OnChannel, Done, HoldsRun, GaveBack, NotGranted, waitsIn}
 use Rattle.tables.specs.State.{State, eventQueue, readyQueue, coreQueue, timeQueue, channelQueue, node, taskAt, requestAt, poolAt, queue, levelOf, unitsOf, read}
 use Rattle.meaning.specs.Conditions.{undefinedIn, enough}
 use Rattle.pools.specs.Pools.{inRun}
@@ -119,7 +119,7 @@ freeSets s =
 abbrev pub blankTask : Task → Bool
 blankTask t =
     eqb (t .place) 0 && eqb (t .program) 0 && eqb (t .parent) 0 && eqb (t .core) 0 && eqb (t .start) 0
-    && eqb (t .count) 0 && eqb (t .events) 0 && eqb (t .time) 0 && eqb (t .request) 0
+    && eqb (t .count) 0 && eqb (t .events) 0 && eqb (t .time) 0 && eqb (t .since) 0 && eqb (t .request) 0
 
 abbrev pub blankRequest : Request → Bool
 blankRequest q = eqb (q .place) 0 && eqb (q .owner) 0 && eqb (q .device) 0 && eqb (q .command) 0 && eqb (q .bytes) 0
@@ -132,6 +132,7 @@ clearTask units t =
     && (not (eqb (t .place) InEvent) implies (eqb (t .count) 0 && eqb (t .events) 0))
     && (not (eqb (t .place) InTime) implies eqb (t .time) 0)
     && (not (eqb (t .place) InCheck) implies eqb (t .request) 0)
+    && (not (waitsIn (t .place)) implies eqb (t .since) 0)  -- E6
 
 abbrev pub clearRequest : Request → Bool
 clearRequest q = eqb (q .place) Free implies blankRequest q
@@ -175,6 +176,10 @@ eventsWait s = allOf (λ k. not (enough s (taskAt s k .count) (taskAt s k .event
 -- "and no first waiter for core would fit"
 unfoldable pub coreWaits : State → Bool
 coreWaits s = everyLevel (λ level. let l = queue s (coreQueue level) in not (isEmpty l) implies not (fits s (hd l)))
+
+-- E6: "Demand 3 gains: it is never past the clock."
+unfoldable pub neverPast : State → Bool
+neverPast s = everyTask (λ k. leb (taskAt s k .since) (s .clock))
 
 -- ---- "the time queue by time, the channel queue by level"
 unfoldable pub queuesInOrder : State → Bool
@@ -238,6 +243,7 @@ stateRules s =
     ∷ idleOnlyIfNoneReady s
     ∷ eventsWait s
     ∷ coreWaits s
+    ∷ neverPast s  -- E6
     ∷ queuesInOrder s
     ∷ ofTheirLevel s
     ∷ coreNeeded s

@@ -95,7 +95,7 @@ readOrWrite s c = let r = least (s .freeRequests) in channelFilled (queued (aske
 
 -- "CHECK: done request, block freed, go on; pending one, wait for it."
 unfoldable pub awaitsRequest : State → ℕ → State
-awaitsRequest s r = let k = s .running in withRunning (withTask s k (awaitingRequest (taskAt s k) r)) 0
+awaitsRequest s r = let k = s .running in withRunning (withTask s k (awaitingRequest (s .clock) (taskAt s k) r)) 0
 
 unfoldable pub check : State → Call → Effect
 check s c =

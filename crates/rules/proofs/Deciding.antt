@@ -6,9 +6,9 @@ use mathlib.Core.Logic.{⊎-elim}
 use Prim.Native.Nat.{ℕ, _≤_}
 use native.Mathlib.Omega.{arith}
 use lib.Bits.{bitAnd}
-use lib.Dec.{eqb}
+use lib.Dec.{eqb, leb}
 use borrow.Author.Tests.{leb-true, le-leb}
-use Rattle.words.proofs.Truth.{tested, and-of, both, same-bool}
+use Rattle.words.proofs.Truth.{tested, not-not, and-of, both, same-bool}
 use Rattle.words.specs.Words.{_implies_, oneTo, someOf, has, allTrue}
 use Rattle.tables.specs.Blocks.{Free, InCheck, Ending, taskBlocks, requestBlocks}
 use Rattle.tables.specs.State.{State, taskAt, requestAt}
@@ -25,7 +25,6 @@ use Rattle.threads.proofs.Tests.{all-to, to-all}
 use Rattle.meaning.proofs.Blanks.{task-blank}
 use Rattle.lawful.proofs.Tested.TaskRules.{neededAt}
 use Rattle.lawful.proofs.Tested.RequestRules.{ownedAt}
-use Rattle.rules.proofs.Waiters.{twice}
 
 -- ---- one block
 
@@ -39,6 +38,9 @@ module _ (s : State) (k : ℕ) where
   abbrev ends : Bool
   ends = eqb (taskAt s k .place) Ending implies someOf (λ r. pends k (requestAt s r)) (oneTo requestBlocks)
 
+  abbrev not-past : Bool
+  not-past = leb (taskAt s k .since) (s .clock)
+
   abbrev used : Bool
   used = not (eqb (requestAt s k .place) Free) implies usedBy (s .freeTasks) (requestAt s k .owner)
 
@@ -51,6 +53,7 @@ module _ (s : State) (k : ℕ) where
     waiter : waits ≡ true
     check : checks ≡ true
     ending : ends ≡ true
+    late : not-past ≡ true
 
   record RequestPasses : Type 0 where
     range : requestRange s k ≡ true
@@ -62,7 +65,8 @@ module _ (s : State) (k : ℕ) where
   task-parts : taskPasses s k ≡ true → TaskPasses
   unfolding taskPasses needsCore
   task-parts e =
-      let pending = both _ _ e in
+      let late = both _ _ e in
+      let pending = both _ _ (late .0) in
       let waiter = both _ _ (pending .0) in
       let place = both _ _ (waiter .0) in
       let needs = both _ _ (place .0) in
@@ -78,6 +82,7 @@ module _ (s : State) (k : ℕ) where
         waiter = waiter .1;
         check = asked .0;
         ending = asked .1;
+        late = late .1;
       }
 
   task-whole : TaskPasses → taskPasses s k ≡ true
@@ -86,7 +91,7 @@ module _ (s : State) (k : ℕ) where
       let fields = and-of _ _ (and-of _ _ (p .range) (p .clear)) (p .needs) in
       let place = and-of _ _ (p .stands) (p .free) in
       let pending = and-of _ _ (p .check) (p .ending) in
-      and-of _ _ (and-of _ _ (and-of _ _ fields place) (p .waiter)) pending
+      and-of _ _ (and-of _ _ (and-of _ _ (and-of _ _ fields place) (p .waiter)) pending) (p .late)
 
   request-parts : requestPasses s k ≡ true → RequestPasses
   unfolding requestPasses
@@ -127,10 +132,10 @@ module _ (s : State) where
   -- a set of defined events, as the rules and as the pass have it
   defined-told : (set : ℕ) → not (undefinedIn s set) ≡ eqb (bitAnd set (s .directory .defined)) set
   unfolding undefinedIn
-  defined-told set = twice (eqb (bitAnd set (s .directory .defined)) set)
+  defined-told set = not-not (eqb (bitAnd set (s .directory .defined)) set)
 
   pub passed : firstPass s ≡ true → Passed s
-  unfolding firstPass firstTests Given rules.onDefined rules.onSignalled rules.signalledDefined rules.tasksInPlace rules.requestsInPlace rules.coreNeeded rules.owned rules.checksPending rules.endingPending pendingOf pending
+  unfolding firstPass firstTests Given rules.onDefined rules.onSignalled rules.signalledDefined rules.tasksInPlace rules.requestsInPlace rules.coreNeeded rules.owned rules.checksPending rules.endingPending rules.neverPast pendingOf pending
   passed e =
       by-name (firstTests s) e (
       λ directory.
@@ -190,13 +195,14 @@ module _ (s : State) where
               owned = to-all (ownedAt s) requestBlocks (λ k l h. sym (used-owner s (λ k l h. t k l h .free) task k (r k l h .range)) ∙ r k l h .owner);
               checksPending = to-all (checks s) taskBlocks (λ k l h. t k l h .check);
               endingPending = to-all (ends s) taskBlocks (λ k l h. t k l h .ending);
+              neverPast = to-all (not-past s) taskBlocks (λ k l h. t k l h .late);
             };
         waiters = λ k l h. t k l h .waiter;
       })
 
   module _ (p : KeepsEach s) (waiters : (k : ℕ) → 1 ≤ k → k ≤ taskBlocks → waits s k ≡ true) where
     task-passes : (k : ℕ) → 1 ≤ k → k ≤ taskBlocks → TaskPasses s k
-    unfolding rules.tasksInPlace rules.coreNeeded rules.checksPending rules.endingPending pendingOf pending
+    unfolding rules.tasksInPlace rules.coreNeeded rules.checksPending rules.endingPending rules.neverPast pendingOf pending
     task-passes k l h =
         record {
           range = all-to (taskRange s) taskBlocks (ranges s (p .inRange) .tasks) k l h;
@@ -207,6 +213,7 @@ module _ (s : State) where
           waiter = waiters k l h;
           check = all-to (checks s) taskBlocks (p .checksPending) k l h;
           ending = all-to (ends s) taskBlocks (p .endingPending) k l h;
+          late = all-to (not-past s) taskBlocks (p .neverPast) k l h;
         }
 
     request-passes : (k : ℕ) → 1 ≤ k → k ≤ requestBlocks → RequestPasses s k

@@ -1,5 +1,5 @@
 -- The rules over the blocks of one queue, told of the task blocks: a task block stands in a queue exactly where its place says so.
-use mathlib.Core.Bool.{Bool, true, false, not, _&&_}
+use mathlib.Core.Bool.{Bool, true, not, _&&_}
 use mathlib.Core.Path.{_≡_, refl, sym, ap, _∙_}
 use mathlib.Core.Logic.{⊎-elim}
 use mathlib.Core.List.{_++_}
@@ -8,7 +8,7 @@ use native.Mathlib.Omega.{arith}
 use lib.Bits.{bitAnd}
 use lib.Dec.{eqb, leb}
 use borrow.Author.Tests.{eq-eqb}
-use Rattle.words.proofs.Truth.{tested, and-of, both, implied}
+use Rattle.words.proofs.Truth.{tested, not-not, and-of, both, implied}
 use Rattle.words.specs.Words.{_implies_, allOf, standing, size}
 use Rattle.tables.specs.declared.Tables.{Tables}
 use Rattle.tables.specs.Blocks.{InEvent, taskBlocks}
@@ -22,10 +22,6 @@ use Rattle.lawful.proofs.Blocks.Members.{by-queue}
 use Rattle.words.proofs.Lists.{all-append}
 use Rattle.pointers.proofs.Marks.{stands-here}
 use Rattle.rules.proofs.Places.{stands, in-queue, tasks-of, level-fits}
-
-pub twice : (b : Bool) → not (not b) ≡ b
-twice true = refl
-twice false = refl
 
 module _ (t : Tables) (o : Orderly t) where
   abbrev s : State
@@ -67,7 +63,7 @@ module _ (t : Tables) (o : Orderly t) where
   pass-told : (k : ℕ) → (not (undefinedIn s (taskAt s k .events)) && leb 1 (taskAt s k .count) && leb (taskAt s k .count) (size (taskAt s k .events)))
       ≡ (defined k && leb 1 (taskAt s k .count) && within k)
   unfolding undefinedIn defined within
-  pass-told k = rw (twice (eqb (bitAnd (taskAt s k .events) (t .directory .defined)) (taskAt s k .events)))
+  pass-told k = rw (not-not (eqb (bitAnd (taskAt s k .events) (t .directory .defined)) (taskAt s k .events)))
 
   waiter-told : (k : ℕ) → waiterRight (t .directory .defined) (t .on) (taskAt s k)
       ≡ (eqb (taskAt s k .place) 4 implies (defined k && leb 1 (taskAt s k .count) && within k && waits k))

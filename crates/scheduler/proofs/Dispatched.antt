@@ -8,7 +8,7 @@ use Rattle.tables.specs.State.{State, withRunning, withTask, taskAt, queue, lea
 use Rattle.meaning.specs.Ready.{placed, runsFirst}
 
 -- the first leaves its queue, its block is moved, and it runs
-pub runs : (s u : State) (level : ℕ) {k : ℕ} {x : Task} → k ≡ hd (queue s level) → u ≡ leaving s level k → x ≡ moving (taskAt u k) Running
+pub runs : (s u : State) (level : ℕ) {k : ℕ} {x : Task} → k ≡ hd (queue s level) → u ≡ leaving s level k → x ≡ moving (u .clock) (taskAt u k) Running
     → withRunning (withTask u k x) k ≡ runsFirst s level
 unfolding runsFirst
 runs s u level {k} e l m =

@@ -33,7 +33,7 @@ pub fn run_first(t: Tables, level: u8) -> Tables
 {
     let k = blocks::first_of(t, level);
     let mut r = blocks::leave(t, level, k);
-    let x = blocks::moving(r.tasks[k as usize], RUNNING);
+    let x = blocks::moving(r.clock, r.tasks[k as usize], RUNNING);
     r.tasks[k as usize] = x;
     r.running = k;
     r

@@ -16,7 +16,7 @@ pub fn put_in(t: Tables, q: u8, p: u8, k: u8) -> Tables
     requires { ⌜ Outside (t .threads) q k × (k < 25) ⌝ }
     ensures { λ r. ⌜ Shows r (joining (placed (read t) k p) q k) ⌝ }
 {
-    let x = blocks::moving(t.tasks[k as usize], p);
+    let x = blocks::moving(t.clock, t.tasks[k as usize], p);
     blocks::join(t, q, k, x)
 }
 

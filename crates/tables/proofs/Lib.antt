@@ -2,3 +2,4 @@ pub mod Held
 pub mod Unique
 pub mod Lies
 pub mod Lengths
+pub mod Readings

@@ -10,6 +10,7 @@ ghost use mathlib.Core.Path.{_≡_};
 ghost use Rattle.tables.specs.State.{unused, tabled, loaded, allZero};
 
 pub mod names;
+pub mod places;
 
 use image::Directory;
 use names::FREE;
@@ -19,13 +20,15 @@ use threads::Threads;
 
 // place, core: numbers of names.rt. program: the number of its module. start: where the run begins that it holds.
 // count and events are the condition of an event waiter, time that of a time waiter, request what a task in CHECK waits for.
+// since: the clock reading at which it entered the place in which it waits; 0 where it does not wait.
 #[repr(C)]
 pub struct Task {
     pub events: u64,
     pub time: u32,
-    pub count: u32,
-    pub program: u16,
-    pub request: u16,
+    pub since: u32,
+    pub count: u16,
+    pub program: u8,
+    pub request: u8,
     pub place: u8,
     pub parent: u8,
     pub core: u8,
@@ -82,6 +85,7 @@ fn unused(directory: Directory, freeTasks: u32, freeRequests: u32) -> Tables
     let task = Task {
         events: 0,
         time: 0,
+        since: 0,
         count: 0,
         program: 0,
         request: 0,

@@ -59,7 +59,7 @@ pub fn stop(t: Tables, p: u8) -> Tables
 {
     let mut r = t;
     let k = r.running;
-    let x = blocks::moving(r.tasks[k as usize], p);
+    let x = blocks::moving(r.clock, r.tasks[k as usize], p);
     r.tasks[k as usize] = x;
     r.running = 0;
     r

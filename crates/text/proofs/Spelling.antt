@@ -9,7 +9,7 @@ use native.Mathlib.Nat.{eq-or-lt-of-le, pow-suc, one-le-pow, pow-le-pow-right, m
 use native.Mathlib.Numerals.{unary-clauses}
 use native.Mathlib.Omega.{arith}
 use lib.Dec.{eqb, leb, ltb, lit<, lit≤}
-use lib.ListN.{length, getD}
+use lib.ListN.{length, length-append, getD}
 use borrow.Author.Tests.{leb-true, leb-false, ltb-true, ltb-false, lt-ltb, le-ltb, le-leb, eqb-true, eqb-false, ne-eqb}
 use Rattle.words.specs.Words.{allOf}
 use Rattle.words.proofs.Truth.{and-left, and-right}
@@ -95,15 +95,24 @@ few-by n k fits f false e =
 pub few : (n k : ℕ) → n < 2 ^ 64 → Fewest 10 1 n k → k ≤ 20
 few n k fits f = few-by n k fits f (leb k 20) refl
 
--- at most 2 digits hold a number below 100
-short-by : (n : ℕ) → n < 100 → (t : Bool) → ltb n 10 ≡ t → length (spelling n) ≤ 2
-short-by n low true e = rw (one-digit n (ltb-true n 10 e)) (lit≤ tt)
-short-by n low false e =
+-- at most d + 1 digits spell a number below 10 ^ (d + 1)
+within-by : (t : Bool) (d n : ℕ) → ltb n 10 ≡ t → n < 10 ^ suc d → length (spelling n) ≤ suc d
+within-by t zero n e low = rw (one-digit n low) (lit≤ tt)
+within-by true (suc d) n e low = rw (one-digit n (ltb-true n 10 e)) (omega arith)
+within-by false (suc d) n e low =
     let whole = div-add-mod' n 10 in
-    rw (last-digit n (ltb-false n 10 e), one-digit (n / 10) (omega (arith, low, whole))) (lit≤ tt)
+    let fewer = within-by (ltb (n / 10) 10) d (n / 10) refl (omega (arith, low, whole, pow-suc 10 (suc d))) in
+    rw (last-digit n (ltb-false n 10 e), length-append (spelling (n / 10)) ((48 + n % 10) ∷ [])) (omega (arith, fewer))
 
+pub within : (d n : ℕ) → n < 10 ^ suc d → length (spelling n) ≤ suc d
+within d n low = within-by (ltb n 10) d n refl low
+
+-- at most 2 digits spell a number below 100, and at most 10 a number of 32 bits
 pub short : (n : ℕ) → n < 100 → length (spelling n) ≤ 2
-short n low = short-by n low (ltb n 10) refl
+short n low = within 1 n low
+
+pub short-word : (n : ℕ) → n < 2 ^ 32 → length (spelling n) ≤ 10
+short-word n low = within 9 n (omega (arith, low))
 
 -- ---- Read back.
 

@@ -20,20 +20,20 @@ use tables::names::TIME_QUEUE;
 use threads::CELLS;
 
 // A task block in the event queue.
-fn awaiting_events(task: Task, count: u8, events: u64) -> Task
-    ensures { λ r. ⌜ r ≡ awaitingEvents task count events ⌝ }
+fn awaiting_events(clock: u32, task: Task, count: u8, events: u64) -> Task
+    ensures { λ r. ⌜ r ≡ awaitingEvents clock task count events ⌝ }
 {
-    let mut x = blocks::moving(task, IN_EVENT);
-    x.count = count as u32;
+    let mut x = blocks::moving(clock, task, IN_EVENT);
+    x.count = count as u16;
     x.events = events;
     x
 }
 
 // A task block in the time queue.
-fn awaiting_time(task: Task, time: u32) -> Task
-    ensures { λ r. ⌜ r ≡ awaitingTime task time ⌝ }
+fn awaiting_time(clock: u32, task: Task, time: u32) -> Task
+    ensures { λ r. ⌜ r ≡ awaitingTime clock task time ⌝ }
 {
-    let mut x = blocks::moving(task, IN_TIME);
+    let mut x = blocks::moving(clock, task, IN_TIME);
     x.time = time;
     x
 }
@@ -43,7 +43,7 @@ pub fn wait_for_events(t: Tables, k: u8, c: Call) -> Tables
     requires { ⌜ Outside (t .threads) eventQueue k × (k < 25) ⌝ }
     ensures { λ r. ⌜ Shows r (awaitsEvents (read t) k c) ⌝ }
 {
-    let x = awaiting_events(t.tasks[k as usize], c.value, c.events);
+    let x = awaiting_events(t.clock, t.tasks[k as usize], c.value, c.events);
     blocks::join(t, EVENT_QUEUE, k, x)
 }
 
@@ -78,7 +78,7 @@ pub fn wait_for_time(t: Tables, k: u8, c: Call) -> Tables
 {
     let mut r = t;
     let due = conditions::due(t, c);
-    let x = awaiting_time(r.tasks[k as usize], due as u32);
+    let x = awaiting_time(r.clock, r.tasks[k as usize], due as u32);
     r.tasks[k as usize] = x;
     enter_time(r, k)
 }

@@ -30,7 +30,7 @@ fn wake_if_due(t: Tables, q: u8, k: u8) -> Tables
 {
     let x = t.tasks[k as usize];
     if q == EVENT_QUEUE {
-        if conditions::enough_on(t.on, x.count, x.events) {
+        if conditions::enough_on(t.on, x.count as u32, x.events) {
             return wake(t, q, k);
         }
         return t;

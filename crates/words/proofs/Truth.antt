@@ -15,6 +15,10 @@ same-truth true b f g = sym (f refl)
 same-truth false true f g = g refl
 same-truth false false f g = refl
 
+pub not-not : (b : Bool) → not (not b) ≡ b
+not-not true = refl
+not-not false = refl
+
 -- ---- Both hold.
 
 pub and-left : (a b : Bool) → (a && b) ≡ true → a ≡ true

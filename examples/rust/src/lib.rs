@@ -5,10 +5,12 @@
 #![deny(unsafe_op_in_unsafe_fn)]
 
 mod event;
+mod place;
 mod refusal;
 mod tables;
 
 pub use event::Event;
+pub use place::Place;
 pub use refusal::Refusal;
 pub use tables::{Answer, Directory, Entry, Request, Tables, Task, Threads, TABLES_LENGTH, TABLES_VERSION};
 

@@ -3,12 +3,14 @@
 //! Every byte of the tables is a field's: none lies between two fields or behind the last. So equal tables are equal bytes.
 
 use crate::event::Event;
+use crate::place::Place;
 use crate::refusal::Refusal;
 use std::fmt;
 use std::mem::{align_of, offset_of, size_of, transmute};
 
-/// The form of stored tables: it changes with the layout. Keep it beside them, and read back none of another version.
-pub const TABLES_VERSION: u32 = 2;
+/// The form of stored tables: it changes with the layout. Keep it beside them, and read back none of another version. The length does not tell versions apart:
+/// tables of version 2 have as many bytes.
+pub const TABLES_VERSION: u32 = 3;
 
 /// How many bytes the tables are.
 pub const TABLES_LENGTH: usize = 1136;
@@ -39,9 +41,13 @@ pub struct Directory {
 pub struct Task {
     pub events: u64,
     pub time: u32,
-    pub count: u32,
-    pub program: u16,
-    pub request: u16,
+    /// The clock reading at which the task entered the place in which it waits, never past the clock; 0 where it does not wait, and also where the wait began
+    /// at clock 0. [`Tables::waits_since`] tells the two apart.
+    pub since: u32,
+    pub count: u16,
+    pub program: u8,
+    pub request: u8,
+    /// The number of a [`Place`]; [`Tables::place`] reads it.
     pub place: u8,
     pub parent: u8,
     pub core: u8,
@@ -105,6 +111,29 @@ impl Tables {
         } else {
             Some(Event::On)
         }
+    }
+
+    /// Where a task block is. `None` where there is no such block, since they are 1 to 24, or where it names no place, as it never does by the table rules.
+    pub fn place(&self, block: u8) -> Option<Place> {
+        Place::of(self.task(block)?.place)
+    }
+
+    /// The clock reading at which the task of a block entered the place in which it waits. `None` where it does not wait, and where [`Tables::place`] is
+    /// `None`. Going from one such place to another sets it anew; being passed over in a queue changes nothing.
+    pub fn waits_since(&self, block: u8) -> Option<u32> {
+        let task = self.task(block)?;
+        Place::of(task.place)?.waits().then_some(task.since)
+    }
+
+    /// For how many cycles of the clock the task of a block has waited in that place. `None` where [`Tables::waits_since`] is, and where the reading is past
+    /// the clock, as it never is by the table rules.
+    pub fn waited(&self, block: u8) -> Option<u32> {
+        self.clock.checked_sub(self.waits_since(block)?)
+    }
+
+    /// A task block by its number, 1 to 24.
+    fn task(&self, block: u8) -> Option<&Task> {
+        self.tasks.get(usize::from(block)).filter(|_| block != 0)
     }
 
     /// The stored form: the bytes of the tables, on a little-endian machine. The version goes beside them, [`TABLES_VERSION`].
@@ -172,7 +201,7 @@ macro_rules! layout {
 
 layout!(Entry, 8, level 0, units 1, flags 2, point 4);
 layout!(Directory, 272, defined 0, entries 8, modules 264, every 268);
-layout!(Task, 24, events 0, time 8, count 12, program 16, request 18, place 20, parent 21, core 22, start 23);
+layout!(Task, 24, events 0, time 8, since 12, count 16, program 18, request 19, place 20, parent 21, core 22, start 23);
 layout!(Request, 6, place 0, owner 1, device 2, command 3, bytes 4);
 layout!(Threads, 100, fwd 0, back 41, first 82, last 91);
 layout!(

@@ -1,6 +1,6 @@
 //! What the safe type promises: the document's first calls, refused images, tables that hold anything, and tables stored as bytes.
 
-use khilzurgee::{block_check, image_check, Answer, Event, Refusal, Station, Tables, TABLES_LENGTH};
+use khilzurgee::{block_check, image_check, Answer, Event, Place, Refusal, Station, Tables, TABLES_LENGTH};
 
 /// The image of the session in full: N 2, events 0 and 1, three modules; its check is 1,906.
 fn image() -> [u8; 512] {
@@ -125,14 +125,116 @@ fn events_by_result() {
     assert_eq!(Tables::from_bytes([0; TABLES_LENGTH]).event(0), None);
 }
 
+/// SCHEDULE of a module at a time.
+fn schedule_at(module: u8, time: u8) -> [u8; 16] {
+    let mut schedule = call(7, module);
+    (schedule[1], schedule[4]) = (2, time);
+    schedule
+}
+
+/// SCHEDULE of a module when an event is on.
+fn schedule_when(module: u8, event: u8) -> [u8; 16] {
+    let mut schedule = call(7, module);
+    (schedule[1], schedule[3], schedule[8]) = (1, 1, 1 << event);
+    schedule
+}
+
+/// READ of 4 bytes.
+fn read() -> [u8; 16] {
+    let mut read = call(13, 7);
+    read[4] = 4;
+    read
+}
+
+/// Every block that waits, where and since when. How long follows from the clock; no other block has either, and there is none but 1 to 24.
+fn waiting(tables: &Tables) -> Vec<(u8, Place, u32)> {
+    let mut all = Vec::new();
+    for block in 0..=255 {
+        let place = tables.place(block);
+        let since = tables.waits_since(block);
+        assert_eq!(place.is_some(), (1..=24).contains(&block));
+        assert_eq!(since.is_some(), place.is_some_and(Place::waits));
+        assert_eq!(tables.waited(block), since.map(|since| tables.clock - since));
+        all.extend(place.zip(since).map(|(place, since)| (block, place, since)));
+    }
+    all
+}
+
+/// Plays calls that are accepted, and one that is not. Who waits then; stored tables know it too.
+fn waiting_after(station: &mut Station, calls: &[[u8; 16]]) -> Vec<(u8, Place, u32)> {
+    for call in calls {
+        assert_eq!(station.call(call).refused(), None);
+    }
+    let all = waiting(station.tables());
+    assert_eq!(station.call(&call(16, 0)).refused(), Some(Refusal::NoCode));
+    assert_eq!(waiting(&Tables::from_bytes(station.tables().to_bytes())), all);
+    all
+}
+
+/// Document 02, E6: when did it start to wait?
+#[test]
+fn since_when_it_waits() {
+    let mut station = Station::load(&image()).expect("a good image");
+    let mut after = |calls: &[[u8; 16]]| waiting_after(&mut station, calls);
+    let (timer, end) = (call(32, 0), call(6, 0));
+    let (core, time, event) = ((2, Place::Core, 0), (3, Place::Time, 1), (4, Place::Event, 2));
+    // Task 1 runs; 2 finds no room, at clock 0. 3 waits for its time, 4 for an event.
+    assert_eq!(after(&[]), []);
+    assert_eq!(after(&[call(35, 0), call(7, 2)]), [core]);
+    assert_eq!(after(&[timer, schedule_at(2, 4)]), [core, time]);
+    assert_eq!(after(&[timer, schedule_when(1, 0)]), [core, time, event]);
+    // 1 waits for its request; then it runs again, and links to 5.
+    assert_eq!(after(&[timer, read(), call(15, 1)]), [(1, Place::Check, 3), core, time, event]);
+    assert_eq!(after(&[call(33, 0)]), [core, time, event]);
+    let link = (1, Place::Link, 3);
+    assert_eq!(after(&[call(5, 1)]), [link, core, time, event]);
+    // The time of 3 has come: it goes on to the core queue, behind 2, and its reading is the new clock.
+    let moved = (3, Place::Core, 4);
+    assert_eq!(after(&[timer]), [link, core, moved, event]);
+    // 4 is ready; 5 ends, and so does 4. Then 1 ends under a read: when that is done, its core goes to 2.
+    assert_eq!(after(&[signal(0, 1)]), [link, core, moved]);
+    assert_eq!(after(&[end]), [core, moved]);
+    assert_eq!(after(&[end, read(), timer, end]), [(1, Place::Ending, 5), core, moved]);
+    assert_eq!(after(&[timer]), [(1, Place::Ending, 5), core, moved]);
+    assert_eq!(after(&[call(33, 0)]), []);
+    let places = [1, 2, 3].map(|block| station.tables().place(block));
+    assert_eq!(places, [Place::Free, Place::Running, Place::Ready].map(Some));
+}
+
+#[test]
+fn places_by_number() {
+    let known: Vec<u8> = (0..=255).filter(|number| Place::of(*number).is_some()).collect();
+    assert_eq!(known, (0..=8).collect::<Vec<u8>>());
+    assert!(known.iter().all(|number| Place::of(*number).map(|place| place as u8) == Some(*number)));
+    assert!(Place::ALL.iter().all(|place| place.waits() == (*place as u8 >= 3)));
+    assert_eq!(Place::Link.to_string(), "waits in LINK, for its child");
+}
+
+/// Tables may hold anything: then nobody waits, or the reading tells nothing.
+#[test]
+fn readings_of_any_tables() {
+    let mut tables = Tables::from_bytes([0xff; TABLES_LENGTH]);
+    assert!((0..=255).all(|block| tables.place(block).is_none() && tables.waits_since(block).is_none() && tables.waited(block).is_none()));
+    tables.tasks[0].place = Place::Link as u8;
+    assert_eq!((tables.place(0), tables.waits_since(0), tables.waited(0)), (None, None, None));
+    tables.tasks[24].place = Place::Link as u8;
+    assert_eq!((tables.waits_since(24), tables.waited(24)), (Some(u32::MAX), Some(0)));
+    tables.clock = 6;
+    assert_eq!((tables.waits_since(24), tables.waited(24)), (Some(u32::MAX), None));
+    tables.tasks[24].since = 7;
+    assert_eq!(tables.waited(24), None);
+    tables.tasks[24].since = 6;
+    assert_eq!(tables.waited(24), Some(0));
+    tables.tasks[24].place = Place::Ready as u8;
+    assert_eq!((tables.place(24), tables.waits_since(24), tables.waited(24)), (Some(Place::Ready), None, None));
+}
+
 /// Document 02, E4: no giving core back under a read.
 #[test]
 fn no_freemain_under_a_read() {
     let mut station = Station::load(&image()).expect("a good image");
     assert_eq!(station.call(&call(35, 0)), answer(0, 1, 1));
-    let mut read = call(13, 7);
-    read[4] = 4;
-    assert_eq!(station.call(&read), answer(0, 1, 1));
+    assert_eq!(station.call(&read()), answer(0, 1, 1));
     let before = station.clone();
     let refused = station.call(&call(1, 0));
     assert_eq!(refused, answer(25, 0, 1));
@@ -173,6 +275,27 @@ fn rules_of_events() {
     }
     for (on, signalled) in [(1, 0), (3, 2), (0, 4), (1, 5), (4, 4), (4, 0)] {
         refused_by_9(with(on, signalled));
+    }
+}
+
+/// Document 02, E6: "0 while free, ready or running", and "never past the clock".
+#[test]
+fn rules_of_readings() {
+    let mut station = Station::load(&image()).expect("a good image");
+    // 1 runs, 2 waits for core, 3 is ready.
+    for call in [call(32, 0), call(32, 0), call(35, 0), call(7, 2), call(7, 1)] {
+        assert_eq!(station.call(&call).refused(), None);
+    }
+    let with = |block: usize, since| {
+        let mut tables = *station.tables();
+        tables.tasks[block].since = since;
+        tables
+    };
+    for since in [0, 1, 2] {
+        assert_eq!(Station::from(with(2, since)).call(&call(32, 0)), answer(0, 1, 1));
+    }
+    for (block, since) in [(2, 3), (2, u32::MAX), (0, 1), (1, 1), (3, 2), (4, 1), (24, 2)] {
+        refused_by_9(with(block, since));
     }
 }
 

@@ -31,6 +31,7 @@ pub record Same (s s′ : State) (y : ℕ) : Type 0 where
   pub runs : one (s′ .running) y ≡ one (s .running) y
   pub freeTasks : bit (s′ .freeTasks) y ≡ bit (s .freeTasks) y
   pub requests : s′ .requests ≡ s .requests
+  pub clock : s .clock ≤ s′ .clock
 
 pub stands-same : {s s′ : State} {p p′ y : ℕ} → Same s s′ y → p′ ≡ p → Stands s p y → Stands s′ p′ y
 stands-same {s} {s′} {p} {p′} {y} c e w =
@@ -43,6 +44,7 @@ stands-same {s} {s′} {p} {p′} {y} c e w =
       freeTasks = rw e (c .freeTasks ∙ w .freeTasks);
       checks = λ z. rw (c .requests, c .block) (w .checks (sym e ∙ z));
       ends = λ z. rw (c .requests) (w .ends (sym e ∙ z));
+      late = omega (arith, w .late, c .clock, ap (λ (t : Task). t .since) (c .block));
     }
 
 -- ---- The law. The task blocks ts are those of s but for the block k; r runs, i are idle, p are the pools, l the queues.
@@ -116,6 +118,7 @@ module _ (s : State) (k : ℕ) (ts : List Task) (r i : ℕ) (p : List ℕ) (l : 
                 runs = u .runs y a (z .1);
                 freeTasks = u .freeTasks y (z .1);
                 requests = refl;
+                clock = omega arith;
               }) (place-kept y (z .1)) (g .tasks y a b)) (tested y k);
           requests = λ j a b. let w = g .requests j a b in let d : node j ≢ k = λ z. omega (arith, z, u .low) in record {
             kind = w .kind;

@@ -83,6 +83,7 @@ module _ (s : State) (k c a level x : ℕ) where
           freeTasks = w .freeTasks;
           checks = λ p. rw (kept (λ t. t .request) refl k) (w .checks p);
           ends = w .ends;
+          late = rw (kept (λ t. t .since) refl k) (w .late);
         })
 
     pub recore : Shape coring h e

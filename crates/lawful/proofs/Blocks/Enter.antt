@@ -12,7 +12,7 @@ use Rattle.words.proofs.Truth.{tested}
 use Rattle.words.specs.Words.{upBy}
 use Rattle.tables.specs.declared.Task.{Task}
 use Rattle.tables.specs.State.{State, timeQueue, channelQueue, withTask, taskAt, queue, levelOf}
-use Rattle.tables.specs.Blocks.{Running, InLink, noTask}
+use Rattle.tables.specs.Blocks.{Running, InLink, noTask, sinceIn}
 use Rattle.meaning.specs.Rules.{queueFor}
 use Rattle.lawful.specs.Shape.{Hand, Fields, Stands, Shape, InHand}
 use Rattle.words.specs.Counting.{one}
@@ -44,7 +44,7 @@ module _ {s : State} {k : ℕ} {h : List ℕ} {e : ℕ} (i : InHand s k h e) whe
 
   -- into the queue q, as the block x: the list m has k once more
   module _ (x : Task) (q : ℕ) (m : List ℕ) (low : q < 8) (own : queueFor (x .place) (levelOf s k) ≡ q) (more : (y : ℕ) → count y m ≡ count y (queue s q) + one k y)
-      (same : SameTask (taskAt s k) x) (f : Fields (s .directory) (x .place) x) (kinds : (2 ≤ x .place) × (x .place ≤ 5)) where
+      (same : SameTask (taskAt s k) x) (since : x .since ≡ sinceIn (s .clock) (x .place)) (f : Fields (s .directory) (x .place) x) (kinds : (2 ≤ x .place) × (x .place ≤ 5)) where
     pub enter : upBy (λ a. taskAt (withTask s k x) a .time) (getD (set (s .queues) q m) timeQueue []) ≡ true
         → Shape (putting s k x (set (s .queues) q m) (s .running)) h e
     enter timed =
@@ -68,6 +68,7 @@ module _ {s : State} {k : ℕ} {h : List ℕ} {e : ℕ} (i : InHand s k h e) whe
           run-others = λ y a b. refl;
           checks = λ z. absurd (omega (arith, z, kinds));
           ends = λ z. absurd (omega (arith, z, kinds));
+          since = since;
           links = omega (arith, one-other (x .place) InLink (λ z. omega (arith, z, kinds)));
           link-others = λ y a d. refl;
           timed = timed;

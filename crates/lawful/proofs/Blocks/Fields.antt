@@ -1,19 +1,22 @@
 -- The rules of one task block, along each of its changes: it is taken in hand, put in a place, given core or made to give it back, unlinked, made, freed.
 -- Each says what is left to show of the new block; what it keeps it has from the old.
+use mathlib.Core.Bool.{Bool, true, false, cond}
 use mathlib.Core.Path.{_≡_, refl, ap}
 use mathlib.Core.Logic.{_≢_, _⊎_, inl, ⊎-elim}
 use Prim.Native.Nat.{ℕ, _+_, _≤_, _<_}
 use native.Mathlib.Omega.{arith}
 use lib.Bits.{bitAnd}
-use Rattle.words.specs.Words.{size}
+use lib.Dec.{eqb}
+use Rattle.words.specs.Words.{_among_, size}
 use Rattle.image.specs.declared.Directory.{Directory}
 use Rattle.tables.specs.declared.Task.{Task}
-use Rattle.tables.specs.Blocks.{Free, Running, Ready, InCore, InEvent, InTime, InLink, InCheck, Ending, noTask, newTask, moving, awaitingEvents, awaitingTime, awaitingRequest, withParent, withCore, taskBlocks}
+use Rattle.tables.specs.Blocks.{Free, waitsIn, sinceIn, Running, Ready, InCore, InEvent, InTime, InLink, InCheck, Ending, noTask, newTask, moving, awaitingEvents, awaitingTime, awaitingRequest, withParent, withCore, taskBlocks}
+use Rattle.tables.proofs.Readings.{since-again}
 use Rattle.lawful.specs.Shape.{Hand, moduleOf, cleared, Fields}
 
 -- x is the task t, in another place: it keeps what every move keeps
 abbrev pub SameTask : Task → Task → Type 0
-SameTask t x = moving x Free ≡ moving t Free
+SameTask t x = moving 0 x Free ≡ moving 0 t Free
 
 -- ---- Into the hand.
 pub held-fields : {d : Directory} {p : ℕ} {t : Task} → Fields d p t → p ≢ Free → Fields d Hand t
@@ -62,62 +65,70 @@ put-fields {d} {t} {x} f e q =
       passes = q .passes;
     }
 
+-- a block that was put into a place: what has no meaning there is zero, and its reading would be set to what it is
+no-meaning : (b : Bool) → _≡_ {A = ℕ} (cond b 0 0) 0
+no-meaning true = refl
+no-meaning false = refl
+
+moved-clear : (now : ℕ) (t : Task) (p : ℕ) → moving now t p ≡ cleared p (moving now t p)
+moved-clear now t p = rw (since-again now p, no-meaning (eqb p InEvent), no-meaning (eqb p InTime), no-meaning (eqb p InCheck))
+
 -- into a place of no fields of its own, which asks that the task has its core, or of no queue but the core queue
-module _ {d : Directory} {t : Task} (f : Fields d Hand t) where
-  pub plain-fields : (p : ℕ) → 1 ≤ p → p ≤ 8 → p ≢ InCore → p ≢ InEvent → moving t p ≡ cleared p (moving t p) → (1 ≤ moduleOf d t .units → t .core ≡ 0 → ⊥)
-      → Fields d p (moving t p)
-  plain-fields p a b c v clear n =
+module _ {d : Directory} {t : Task} (now : ℕ) (f : Fields d Hand t) where
+  pub plain-fields : (p : ℕ) → 1 ≤ p → p ≤ 8 → p ≢ InCore → p ≢ InEvent → (1 ≤ moduleOf d t .units → t .core ≡ 0 → ⊥)
+      → Fields d p (moving now t p)
+  plain-fields p a b c v n =
       put-fields f refl (record {
         used = a;
         place = b;
         waits = λ z. absurd (c z);
         needs = λ i j. absurd (n i j);
-        clear = clear;
+        clear = moved-clear now t p;
         passes = λ z. absurd (v z);
       })
 
-  pub waiting-fields : 1 ≤ moduleOf d t .units → t .core ≡ 0 → Fields d InCore (moving t InCore)
+  pub waiting-fields : 1 ≤ moduleOf d t .units → t .core ≡ 0 → Fields d InCore (moving now t InCore)
   waiting-fields n c =
       put-fields f refl (record {
         used = omega arith;
         place = omega arith;
         waits = λ z. (n, c);
         needs = λ i j. omega arith;
-        clear = refl;
+        clear = moved-clear now t InCore;
         passes = λ z. absurd (omega (arith, z));
       })
 
   -- into a place with a condition of its own
-  pub event-fields : {n v : ℕ} → (bitAnd v (d .defined) ≡ v) × (1 ≤ n) × (n ≤ size v) → Fields d InEvent (awaitingEvents t n v)
+  pub event-fields : {n v : ℕ} → (bitAnd v (d .defined) ≡ v) × (1 ≤ n) × (n ≤ size v) → Fields d InEvent (awaitingEvents now t n v)
   event-fields p =
       put-fields f refl (record {
         used = omega arith;
         place = omega arith;
         waits = λ z. absurd (omega (arith, z));
         needs = λ i j. omega arith;
-        clear = refl;
+        clear = rw (since-again now InEvent);
         passes = λ z. p;
       })
 
-  pub time-fields : {x : ℕ} → Fields d InTime (awaitingTime t x)
+  pub time-fields : {x : ℕ} → Fields d InTime (awaitingTime now t x)
   time-fields =
       put-fields f refl (record {
         used = omega arith;
         place = omega arith;
         waits = λ z. absurd (omega (arith, z));
         needs = λ i j. omega arith;
-        clear = refl;
+        clear = rw (since-again now InTime);
         passes = λ z. absurd (omega (arith, z));
       })
 
-  pub check-fields : (r : ℕ) → (1 ≤ moduleOf d t .units → t .core ≡ 0 → ⊥) → Fields d InCheck (awaitingRequest t r)
+  pub check-fields : (r : ℕ) → (1 ≤ moduleOf d t .units → t .core ≡ 0 → ⊥) → Fields d InCheck (awaitingRequest now t r)
   check-fields r n =
       put-fields f refl (record {
         used = omega arith;
         place = omega arith;
         waits = λ z. absurd (omega (arith, z));
         needs = λ i j. absurd (n i j);
-        clear = refl;
+        clear = rw (since-again now InCheck);
         passes = λ z. absurd (omega (arith, z));
       })
 
@@ -160,6 +171,10 @@ module _ {d : Directory} {p : ℕ} {t : Task} (f : Fields d p t) where
       }
 
 -- ---- A block with no core and no condition, of the module m and the parent q: it may be free, where it is zero, or in hand.
+new-clear : (m q : ℕ) → newTask m q ≡ cleared Free (newTask m q)
+unfolding sinceIn waitsIn _among_
+new-clear m q = refl
+
 pub new-fields : (d : Directory) {p m q : ℕ} → (p ≡ Free) ⊎ (p ≡ Hand) → (p ≡ Free → newTask m q ≡ noTask) → (p ≢ Free → m < d .modules) → q ≤ taskBlocks → Fields d p (newTask m q)
 new-fields d {p} {m} {q} either zero known parent =
     let other : (n : ℕ) → 1 ≤ n → n ≤ 8 → p ≢ n = λ n a b z. ⊎-elim (λ e. omega (arith, e, z)) (λ e. omega (arith, e, z)) either in
@@ -174,7 +189,7 @@ new-fields d {p} {m} {q} either zero known parent =
       unneeded = λ z. refl;
       waits = λ z. absurd (other InCore (omega arith) (omega arith) z);
       needs = λ i j. (other Running (omega arith) (omega arith), other Ready (omega arith) (omega arith), other InLink (omega arith) (omega arith), other InCheck (omega arith) (omega arith), other Ending (omega arith) (omega arith));
-      clear = λ n. ⊎-elim (λ e. rw e refl) (λ e. absurd (n e)) either;
+      clear = λ n. ⊎-elim (λ e. rw e (new-clear m q)) (λ e. absurd (n e)) either;
       passes = λ z. absurd (other InEvent (omega arith) (omega arith) z);
     }
 

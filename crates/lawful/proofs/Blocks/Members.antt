@@ -93,6 +93,11 @@ module _ {s : State} {h : List ℕ} {e : ℕ} (g : Shape s h e) (k q : ℕ) (low
       by-queue (placeOf s h k) (levelOf s k) q member-queue (omega arith) (λ z y. absurd (omega (arith, a, y, level-best g member-some member-low member-used)))
       (λ z y. absurd (omega (arith, a, y))) (λ z y. z) (λ z y. absurd (omega (arith, a, y)))
 
+  pub member-time : q ≡ 7 → placeOf s h k ≡ InTime
+  member-time a =
+      by-queue (placeOf s h k) (levelOf s k) q member-queue (omega arith) (λ z y. absurd (omega (arith, a, y, level-worst g member-some member-low member-used)))
+      (λ z y. absurd (omega (arith, a, y, level-worst g member-some member-low member-used))) (λ z y. absurd (omega (arith, a, y))) (λ z y. z)
+
   pub member-once : count k (queue s q) ≡ 1
   member-once = member-stands .queued q (omega arith) ∙ one-same _ q member-queue
 

@@ -13,7 +13,8 @@ use Rattle.words.specs.Words.{_among_, upBy}
 use Rattle.image.specs.Directory.{noEntry}
 use Rattle.tables.specs.declared.Task.{Task}
 use Rattle.tables.specs.State.{State, timeQueue, channelQueue, withRunning, withTask, withQueues, taskAt, queue, levelOf}
-use Rattle.tables.specs.Blocks.{Free, Running, InLink, InCheck, Ending, noTask, taskBlocks}
+use Rattle.tables.specs.Blocks.{Free, Running, InLink, InCheck, Ending, noTask, sinceIn, taskBlocks}
+use Rattle.tables.proofs.Readings.{since-low}
 use Rattle.meaning.specs.Rules.{queueFor}
 use Rattle.lawful.specs.Shape.{Hand, placeOf, Fields, Pending, Stands, holding, children, Shape}
 use Rattle.words.specs.Counting.{one}
@@ -44,6 +45,7 @@ module _ (s : State) (k : ℕ) (x : Task) where
     pub run-others : (y : ℕ) → 1 ≤ y → y ≢ k → one r y ≡ one (s .running) y
     pub checks : x .place ≡ InCheck → Pending (s .requests) k (x .request)
     pub ends : x .place ≡ Ending → (i : ℕ) × Pending (s .requests) k i
+    pub since : x .since ≡ sinceIn (s .clock) (x .place)
     pub links : one (x .place) InLink + one k e′ ≡ one k e
     pub link-others : (y : ℕ) → 1 ≤ y → y ≢ k → one y e′ ≡ one y e
     pub timed : upBy (λ a. taskAt (putting l r) a .time) (getD l timeQueue []) ≡ true
@@ -81,6 +83,7 @@ module _ (s : State) (k : ℕ) (x : Task) where
               ∙ one-other Hand Free (λ z. omega (arith, z)) ∙ sym (one-other (x .place) Free (λ z. omega (arith, z, u .used)));
           checks = λ z. rw put-same (u .checks z);
           ends = u .ends;
+          late = rw (put-same, u .since) (since-low (s .clock) (x .place));
         })
 
     put-links : (y : ℕ) → 1 ≤ y → y ≤ taskBlocks → children (set (s .tasks) k x) y ≡ one (placeOf (putting l r) h y) InLink + one y e′

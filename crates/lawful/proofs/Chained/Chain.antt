@@ -6,10 +6,13 @@ use mathlib.Core.List.{List, [], _∷_}
 use Prim.Native.Nat.{ℕ, zero, suc, _+_, _%_, _≤_, _<_}
 use native.Mathlib.Omega.{arith}
 use lib.Dec.{eqb, leb, ltb}
-use borrow.Author.Tests.{leb-false}
-use Rattle.threads.specs.Threads.{hd}
-use Rattle.words.proofs.Truth.{tested}
+use borrow.Author.Tests.{eqb-true, eqb-false, leb-false}
+use Rattle.threads.specs.Threads.{hd, count}
+use Rattle.threads.proofs.Queues.{count-cons}
+use Rattle.words.proofs.Truth.{tested, and-left}
+use Rattle.words.proofs.Counting.{one-same}
 use Rattle.words.specs.Words.{if_then_else_, isEmpty, oneTo, each, least, _among_}
+use Rattle.tables.specs.declared.Task.{Task}
 use Rattle.tables.specs.Blocks.{Ready, InLink, InCheck, Ending, OnChannel, Done, requestBlocks}
 use Rattle.tables.specs.State.{State, eventQueue, timeQueue, readyQueue, channelQueue, withChannel, taskAt, requestAt, queue, levelOf, leaving}
 use Rattle.calls.specs.declared.Call.{Call}
@@ -22,10 +25,11 @@ use Rattle.meaning.specs.Services.{Effect, stopped, created, freemain, link, en
 use Rattle.meaning.proofs.Deeds.{Shown, every-deed}
 use Rattle.lawful.specs.Reached.{First}
 use Rattle.lawful.proofs.Ready.Newly.{first-best}
-use Rattle.lawful.proofs.Ready.Cases.{kept, none-ready, dispatches}
+use Rattle.lawful.proofs.Ready.Cases.{kept as dispatch-kept, none-ready, dispatches}
 use Rattle.lawful.proofs.Each.Calls.{holds-new, holds-stopped}
 use Rattle.lawful.proofs.Chained.Small as M
-use Rattle.lawful.proofs.Chained.Small.{Waiter, moves, awaits, sleeps, checks, unlinks, makes, frees, asks, goes, drops, joins, leads, leaves, sorts, Small, ticks, tells, stops, carries, tasksFree, requestsFree, block, lines, Turn, small, runs, Chain, none, _next_, widened, joined}
+use Rattle.lawful.proofs.Chained.Small.{Waiter, Comes, itself, event, time, request, Enters, to-ready, Block, moves, awaits, sleeps, checks, cores, unlinks, makes, frees, asks, goes, drops, joins, leads, leaves, sorts, Small, ticks, tells, stops, carries, tasksFree, requestsFree, block, lines, Turn, small, runs, Chain, none, _next_, kept, widened, joined}
+use Rattle.lawful.proofs.Chained.Views.{block-of}
 use Rattle.lawful.proofs.Chained.Framed.{Any, Readies, small-of, made-ready, back-ready}
 
 -- ---- The parts of calls: from a chain to s, one to what the part leaves of s.
@@ -39,23 +43,24 @@ module _ (o : State) (c : Call) where
   either false f g = g refl
 
   -- ---- Getting ready, and giving core back: their own chains, of any block and any queue.
-  ready : {s t : State} → To s → Chain (Readies Any Any) s t → To t
+  ready : {s t : State} → To s → Chain (Readies Any (Comes o) Any) s t → To t
   ready h g = joined h (widened small-of g)
 
-  pub ready-chain : (s : State) (k : ℕ) → To s → To (madeReady s k)
-  ready-chain s k h = ready h (made-ready _ _ s s k refl refl refl none)
+  pub ready-chain : (s : State) (k : ℕ) → Comes o k → To s → To (madeReady s k)
+  ready-chain s k c h = ready h (made-ready _ _ _ s s k refl c refl refl none)
 
   back-chain : (s : State) (k : ℕ) → To s → To (givenBack s k)
-  back-chain s k h = ready h (back-ready _ _ s s k refl (λ y c. refl) (λ q. refl) none)
+  back-chain s k h = ready h (back-ready _ _ _ s s k refl (λ y c. refl) (λ q. refl) none)
 
   leaving-chain : (s : State) (q k : ℕ) → To s → To (leaving s q k)
   leaving-chain s q k h = h next lines q (leaves k)
 
   -- ---- Finishing.
-  pub each-chain : (f : ℕ → State → State) → ((k : ℕ) (s : State) → To s → To (f k s)) → (l : List ℕ) (s : State) → To s → To (each f l s)
+  pub each-chain : (f : ℕ → State → State) (l : List ℕ) → ((k : ℕ) → 1 ≤ count k l → (s : State) → To s → To (f k s)) → (s : State) → To s → To (each f l s)
   unfolding each
-  each-chain f g [] s h = h
-  each-chain f g (k ∷ l) s h = each-chain f g l (f k s) (g k s h)
+  each-chain f [] g s h = h
+  each-chain f (k ∷ l) g s h =
+      each-chain f l (λ y c. g y (omega (arith, c, count-cons k y l))) (f k s) (g k (omega (arith, count-cons k k l, one-same k k refl)) s h)
 
   pub freed-chain : (s : State) (r : ℕ) → To s → To (freedRequest s r)
   unfolding freedRequest
@@ -65,27 +70,48 @@ module _ (o : State) (c : Call) where
   unfolding freedIfDone
   done-chain k r s h = either (eqb (requestAt s r .owner) k && eqb (requestAt s r .place) Done) (λ e. freed-chain s r h) (λ e. h)
 
-  parent-chain : (s : State) (p : ℕ) → To s → To (parentReady s p)
+  -- a parent on the way is one from the beginning, or the caller
+  parent-next : (t u : State) → Small o c t u → ((k : ℕ) → taskAt t k .parent ≢ 0 → Comes o (taskAt t k .parent)) → (k : ℕ) → taskAt u k .parent ≢ 0 → Comes o (taskAt u k .parent)
+  parent-next t u p f k = ⊎-elim (λ e. rw e (f k)) (λ b. go b) (block-of p k)
+    where
+      go : {x : Task} → Block o c t k x → x .parent ≢ 0 → Comes o (x .parent)
+      go (moves p w e) = f k
+      go (awaits w e) = f k
+      go (sleeps due w l) = f k
+      go (checks r e) = f k
+      go (cores h a) = f k
+      go unlinks = λ n. absurd (n refl)
+      go (makes p e w) = λ n. ⊎-elim (λ z. itself (inl z)) (λ z. absurd (n z)) w
+      go frees = λ n. absurd (n refl)
+
+  parent-comes : (s : State) (k : ℕ) → To s → taskAt s k .parent ≢ 0 → Comes o (taskAt s k .parent)
+  parent-comes s k h = kept (λ (t : State). (k : ℕ) → taskAt t k .parent ≢ 0 → Comes o (taskAt t k .parent)) parent-next h (λ j n. M.parent j refl) k
+
+  parent-chain : (s : State) (p : ℕ) → (p ≢ 0 → Comes o p) → To s → To (parentReady s p)
   unfolding parentReady
-  parent-chain s p h = either (eqb p 0) (λ e. h) (λ e. ready-chain s p h)
+  parent-chain s p c h = either (eqb p 0) (λ e. h) (λ e. ready-chain s p (c (eqb-false p 0 e)) h)
 
   pub finished-chain : (s : State) (k : ℕ) → To s → To (finished s k)
   unfolding finished freedDone freedTask
   finished-chain s k h =
-      parent-chain _ _ (each-chain (freedIfDone k) (done-chain k) (oneTo requestBlocks) (givenBack s k) (back-chain s k h)) next tasksFree _ next block k frees
+      let done = each-chain (freedIfDone k) (oneTo requestBlocks) (λ r i. done-chain k r) (givenBack s k) (back-chain s k h) in
+      parent-chain _ _ (parent-comes _ k done) done next tasksFree _ next block k frees
 
-  pub ended-chain : (s : State) (k : ℕ) → To s → To (ended s k)
+  pub ended-chain : (s : State) (k : ℕ) → Comes o k → To s → To (ended s k)
   unfolding ended
-  ended-chain s k h = either (pending s k) (λ e. h next block k (moves Ending (omega arith))) (λ e. finished-chain s k h)
+  ended-chain s k c h =
+      either (pending s k) (λ e. h next block k (moves Ending (omega arith) (record { waits = λ n. c; links = λ z. absurd (omega (arith, z)) }))) (λ e. finished-chain s k h)
 
   unlinked-chain : (s : State) (k : ℕ) → To s → To (unlinked s k)
   unfolding unlinked
   unlinked-chain s k h = h next block k unlinks
 
-  pub aborted-chain : (n k : ℕ) (s : State) → To s → To (aborted n k s)
+  pub aborted-chain : (n k : ℕ) (s : State) → (k ≢ 0 → Comes o k) → To s → To (aborted n k s)
   unfolding aborted
-  aborted-chain zero k s h = h
-  aborted-chain (suc n) k s h = either (eqb k 0) (λ e. h) (λ e. aborted-chain n (taskAt s k .parent) (ended (unlinked s k) k) (ended-chain (unlinked s k) k (unlinked-chain s k h)))
+  aborted-chain zero k s c h = h
+  aborted-chain (suc n) k s c h =
+      either (eqb k 0) (λ e. h)
+      (λ e. aborted-chain n (taskAt s k .parent) (ended (unlinked s k) k) (parent-comes s k h) (ended-chain (unlinked s k) k (c (eqb-false k 0 e)) (unlinked-chain s k h)))
 
   -- ---- The channel.
   pub started-chain : (s : State) → To s → To (channelFilled s)
@@ -117,9 +143,9 @@ module _ (o : State) (c : Call) where
   begun : To o c o
   begun = none
 
-  stopped-chain : (s : State) (p : ℕ) → needsTask (c .code) ≡ true → (2 ≤ p) × (p ≢ 4) × (p ≢ 5) × (p ≢ 7) → To o c s → To o c (stopped s p)
+  stopped-chain : (s : State) (p : ℕ) → needsTask (c .code) ≡ true → (2 ≤ p) × (p ≢ 4) × (p ≢ 5) × (p ≢ 7) → Enters o (s .running) p → To o c s → To o c (stopped s p)
   unfolding stopped
-  stopped-chain s p n w h = h next block (s .running) (moves p w) next stops n
+  stopped-chain s p n w e h = h next block (s .running) (moves p w e) next stops n
 
   created-chain : (p : ℕ) → (p ≡ o .running) ⊎ (p ≡ 0) → To o c (created o (least (o .freeTasks)) (c .number) p)
   unfolding created
@@ -130,31 +156,31 @@ module _ (o : State) (c : Call) where
   freemain-chain = back-chain o c o (o .running) begun
 
   link-chain : needsTask (c .code) ≡ true → To o c (link o c .state)
-  unfolding link
-  link-chain n = ready-chain o c _ _ (stopped-chain _ InLink n (omega arith) (created-chain (o .running) (inl refl)))
+  unfolding link created
+  link-chain n = ready-chain o c _ _ (itself (inr refl)) (stopped-chain _ InLink n (omega arith) (record { waits = λ i. itself (inl refl); links = λ i. inl refl }) (created-chain (o .running) (inl refl)))
 
   end-chain : needsTask (c .code) ≡ true → To o c (end o c .state)
   unfolding end
-  end-chain n = ended-chain o c _ (o .running) (begun next stops n)
+  end-chain n = ended-chain o c _ (o .running) (itself (inl refl)) (begun next stops n)
 
   schedule-chain : To o c (schedule o c .state)
   unfolding schedule
   schedule-chain =
       let m = created-chain 0 (inr refl) in
-      either o c (holds o c) (λ e. ready-chain o c _ _ m) (λ e. waiting-chain o c _ (least (o .freeTasks)) (inr refl) (holds-new o _ (c .number) c e) m)
+      either o c (holds o c) (λ e. ready-chain o c _ _ (itself (inr refl)) m) (λ e. waiting-chain o c _ (least (o .freeTasks)) (inr refl) (holds-new o _ (c .number) c e) m)
 
   wait-chain : needsTask (c .code) ≡ true → To o c (wait o c .state)
   unfolding wait
   wait-chain n = either o c (holds o c) (λ e. begun) (λ e. waiting-chain o c _ (o .running) (inl refl) (holds-stopped o c e) (begun next stops n))
 
-  woken-chain : (k : ℕ) (s : State) → To o c s → To o c (woken k s)
+  woken-chain : (k : ℕ) → 1 ≤ count k (queue o eventQueue) → (s : State) → To o c s → To o c (woken k s)
   unfolding woken
-  woken-chain k s h = either o c (enough s (taskAt s k .count) (taskAt s k .events)) (λ e. ready-chain o c _ k (leaving-chain o c s eventQueue k h)) (λ e. h)
+  woken-chain k i s h = either o c (enough s (taskAt s k .count) (taskAt s k .events)) (λ e. ready-chain o c _ k (event i) (leaving-chain o c s eventQueue k h)) (λ e. h)
 
   signal-chain : c .code ≡ SIGNAL → To o c (signal o c .state)
   unfolding signal
   signal-chain e =
-      either o c (eqb (c .value) 1) (λ v. each-chain o c woken woken-chain (queue o eventQueue) _ (begun next tells _ _ e)) (λ v. begun next tells _ _ e)
+      either o c (eqb (c .value) 1) (λ v. each-chain o c woken (queue o eventQueue) woken-chain _ (begun next tells _ _ e)) (λ v. begun next tells _ _ e)
 
   test-chain : To o c (testEvent o c .state)
   unfolding testEvent
@@ -164,7 +190,7 @@ module _ (o : State) (c : Call) where
   unfolding dispatchCheck
   yield-chain e n =
       either o c (ltb 0 (bestReady o) && ltb (bestReady o) (levelOf o (o .running)))
-      (λ b. stopped-chain o Ready n (omega arith) begun next lines (readyQueue (levelOf o (o .running))) (leads (o .running) e)) (λ b. begun)
+      (λ b. stopped-chain o Ready n (omega arith) to-ready begun next lines (readyQueue (levelOf o (o .running))) (leads (o .running) e)) (λ b. begun)
 
   transfer-chain : To o c (readOrWrite o c .state)
   unfolding readOrWrite queued asked
@@ -175,14 +201,14 @@ module _ (o : State) (c : Call) where
   check-chain n =
       either o c (eqb (requestAt o (c .number) .place) Done) (λ e. freed-chain o c o (c .number) begun) (λ e. begun next block (o .running) (checks (c .number) refl) next stops n)
 
-  pub timely-chain : (k : ℕ) (s : State) → To o c s → To o c (timely k s)
+  pub timely-chain : (k : ℕ) → 1 ≤ count k (queue o timeQueue) → (s : State) → To o c s → To o c (timely k s)
   unfolding timely
-  timely-chain k s h = either o c (leb (taskAt s k .time) (s .clock)) (λ e. ready-chain o c _ k (leaving-chain o c s timeQueue k h)) (λ e. h)
+  timely-chain k i s h = either o c (leb (taskAt s k .time) (s .clock)) (λ e. ready-chain o c _ k (time i) (leaving-chain o c s timeQueue k h)) (λ e. h)
 
   timer-chain : c .code ≡ TIMER → To o c (timer o c .state)
   unfolding timer
   timer-chain e =
-      either o c (eqb ((o .clock + 1) % o .directory .every) 0) (λ d. each-chain o c timely timely-chain (queue o timeQueue) _ (begun next ticks e)) (λ d. begun next ticks e)
+      either o c (eqb ((o .clock + 1) % o .directory .every) 0) (λ d. each-chain o c timely (queue o timeQueue) timely-chain _ (begun next ticks e refl)) (λ d. begun next ticks e refl)
 
   transferred-chain : To o c (ioDone o c .state)
   unfolding ioDone
@@ -192,18 +218,18 @@ module _ (o : State) (c : Call) where
       let t = taskAt o k in
       let left = begun next carries 0 in
       started-chain o c _
-      (either o c (eqb (t .place) InCheck && eqb (t .request) r) (λ e. ready-chain o c _ k (freed-chain o c _ r left))
+      (either o c (eqb (t .place) InCheck && eqb (t .request) r) (λ e. ready-chain o c _ k (request (eqb-true _ _ (and-left (eqb (t .place) InCheck) _ e))) (freed-chain o c _ r left))
       (λ e.
       either o c (eqb (t .place) Ending && not (pending (requestPlaced (withChannel o 0) r Done) k)) (λ d. finished-chain o c _ k (freed-chain o c _ r left))
       (λ d. left next M.asked r (goes Done))))
 
   abort-chain : needsTask (c .code) ≡ true → To o c (programCheck o c .state)
   unfolding programCheck
-  abort-chain n = aborted-chain o c 24 (o .running) _ (begun next stops n)
+  abort-chain n = aborted-chain o c 24 (o .running) _ (λ i. itself (inl refl)) (begun next stops n)
 
   start-chain : To o c (operatorStart o c .state)
   unfolding operatorStart
-  start-chain = ready-chain o c _ _ (created-chain 0 (inr refl))
+  start-chain = ready-chain o c _ _ (itself (inr refl)) (created-chain 0 (inr refl))
 
   -- ---- All of them. The law: what any call does is a chain of small changes.
   pub effect-chain : Chain (Small o c) o (effect o c .state)
@@ -235,7 +261,7 @@ module _ (o : State) (c : Call) where
   dispatched-chain s h =
       ⊎-elim
       (λ z. ⊎-elim (λ b. rw (none-ready s (z .1) (b .1)) h) (λ b. rw (dispatches s (z .1) (b .1)) (first-chain s (bestReady s) (z .1) (first-best s (b .1)) h)) (tested (bestReady s) 0))
-      (λ z. rw (kept s (z .1)) h) (tested (s .running) 0)
+      (λ z. rw (dispatch-kept s (z .1)) h) (tested (s .running) 0)
 
   pub turn-chain : Chain (Turn o c) o (dispatched (effect o c .state))
   turn-chain = dispatched-chain (effect o c .state) (widened (λ s t. small) effect-chain)

@@ -245,13 +245,13 @@ module _ {s : State} (g : Lawful s) (n : s .running ≢ 0) (r : ℕ) (some : 1 �
       (λ z. rw (z .0) (
       let i = stop (g .shape) n in
       let w = runs-stands (g .shape) n in
-      let f = check-fields (hand-stands i .fields) r (λ a b. w .fields .needs a b .0 (runs-place (g .shape) n)) in
+      let f = check-fields (s .clock) (hand-stands i .fields) r (λ a b. w .fields .needs a b .0 (runs-place (g .shape) n)) in
       let k = g .shape .requests r some low .kind in
       settled
-      (park i (awaitingRequest (taskAt s (s .running)) r) 0 (omega arith) refl f
+      (park i (awaitingRequest (s .clock) (taskAt s (s .running)) r) 0 (omega arith) refl refl f
       (λ y. record { some = some; low = low; own = own; first = omega (arith, used); last = omega (arith, z .1, k) })
       (λ y. absurd (omega (arith, y))) (omega (arith, one-other InCheck InLink (λ y. omega (arith, y)))) (λ y a d. refl))
-      (park-rest i (awaitingRequest (taskAt s (s .running)) r) (rest-stopped s 0 (g .rest)))))
+      (park-rest i (awaitingRequest (s .clock) (taskAt s (s .running)) r) (rest-stopped s 0 (g .rest)))))
       (tested (requestAt s r .place) Done)
 
 pub check-keeps : {s : State} (c : Call) → Lawful s → s .running ≢ 0 → 1 ≤ c .number → c .number ≤ requestBlocks → requestAt s (c .number) .place ≢ 0 → requestAt s (c .number) .owner ≡ s .running

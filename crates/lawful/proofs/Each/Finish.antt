@@ -191,11 +191,11 @@ module _ {s : State} {k : ℕ} {h : List ℕ} {m : List ℕ} (i : InHand s k h 0
     where
       go : (b : Bool) → pending s k ≡ b → Finishes s (if b then placed s k Ending else finished s k) k h m
       go true e =
-          let f = plain-fields (hand-stands i .fields) Ending (omega arith) (omega arith) (λ z. omega (arith, z)) (λ z. omega (arith, z)) refl u in
+          let f = plain-fields (s .clock) (hand-stands i .fields) Ending (omega arith) (omega arith) (λ z. omega (arith, z)) (λ z. omega (arith, z)) u in
           record {
-            shape = park i (moving (taskAt s k) Ending) 0 (omega arith) refl f (λ z. absurd (omega (arith, z))) (λ z. pending-some s k e)
+            shape = park i (moving (s .clock) (taskAt s k) Ending) 0 (omega arith) refl refl f (λ z. absurd (omega (arith, z))) (λ z. pending-some s k e)
                 (omega (arith, one-other Ending InLink (λ z. omega (arith, z)))) (λ y a d. refl);
-            rest = park-rest i (moving (taskAt s k) Ending) t;
+            rest = park-rest i (moving (s .clock) (taskAt s k) Ending) t;
             parents = λ y d. ap (λ (t : Task). t .parent) (getD-set-other (s .tasks) k y _ noTask d);
             own = λ z. field-kept (λ t. t .parent) (s .tasks) k k _ noTask refl ∙ z;
             tasks = λ y d d′ z. getD-set-other (s .tasks) k y _ noTask d;

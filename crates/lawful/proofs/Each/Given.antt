@@ -29,7 +29,7 @@ use Rattle.lawful.proofs.Each.Calls.{settled}
 
 -- what giving back touches: k, and those that wait for core of its level
 pub back-frame : (s : State) (k : ℕ) → Framed (λ y. (y ≡ k) ⊎ (1 ≤ count y (queue s (coreQueue (levelOf s k))))) Any s (givenBack s k)
-back-frame s k = framed (back-ready _ _ s s k (inl refl) (λ y c. inr c) (λ q. refl) none)
+back-frame s k = framed (back-ready _ Any _ s s k (inl refl) (λ y c. inr c) (λ q. refl) none)
 
 pub record GivesBack (s′ : State) (k : ℕ) (h : List ℕ) (e : ℕ) (m : List ℕ) : Type 0 where
   pub shape : Shape s′ h e

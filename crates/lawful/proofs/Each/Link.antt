@@ -9,7 +9,7 @@ use lib.Seq.{getD-set-other}
 use Rattle.words.specs.Words.{least}
 use Rattle.tables.specs.declared.Task.{Task}
 use Rattle.tables.specs.State.{State, taskAt, levelOf, unitsOf, withRunning, withTask}
-use Rattle.tables.specs.Blocks.{Free, Running, InLink, InCheck, Ending, noTask, moving}
+use Rattle.tables.specs.Blocks.{Free, Running, InLink, InCheck, Ending, noTask, moving, sinceIn}
 use Rattle.calls.specs.declared.Call.{Call}
 use Rattle.meaning.specs.Ready.{madeReady}
 use Rattle.meaning.specs.Services.{stopped, created, link}
@@ -31,7 +31,7 @@ use Rattle.threads.specs.Threads.{QUEUES}
 
 -- ---- Parking.
 module _ {s : State} {k : ℕ} {h : List ℕ} {e : ℕ} (i : InHand s k h e) (x : Task) (e′ : ℕ) (kinds : (6 ≤ x .place) × (x .place ≤ 8))
-    (same : SameTask (taskAt s k) x) (f : Fields (s .directory) (x .place) x) where
+    (same : SameTask (taskAt s k) x) (since : x .since ≡ sinceIn (s .clock) (x .place)) (f : Fields (s .directory) (x .place) x) where
   pub park : (x .place ≡ InCheck → Pending (s .requests) k (x .request)) → (x .place ≡ Ending → (r : ℕ) × Pending (s .requests) k r)
       → one (x .place) InLink + one k e′ ≡ one k e → ((y : ℕ) → 1 ≤ y → y ≢ k → one y e′ ≡ one y e)
       → Shape (withTask s k x) h e′
@@ -51,6 +51,7 @@ module _ {s : State} {k : ℕ} {h : List ℕ} {e : ℕ} (i : InHand s k h e) (x 
         run-others = λ y a d. refl;
         checks = checks;
         ends = ends;
+        since = since;
         links = links;
         link-others = others;
         timed = hand-timed i x;
@@ -106,8 +107,8 @@ module _ {s : State} (g : Lawful s) (m : ℕ) (known : m < s .directory .modules
         low = child-hand .low;
         out = child-hand .out;
         shape =
-            park caller-hand (moving (taskAt child (s .running)) InLink) 0 (omega arith) refl
-            (plain-fields (hand-stands caller-hand .fields) InLink (omega arith) (omega arith) (λ z. omega (arith, z)) (λ z. omega (arith, z)) refl caller-needs)
+            park caller-hand (moving (child .clock) (taskAt child (s .running)) InLink) 0 (omega arith) refl refl
+            (plain-fields (child .clock) (hand-stands caller-hand .fields) InLink (omega arith) (omega arith) (λ z. omega (arith, z)) (λ z. omega (arith, z)) caller-needs)
             (λ z. absurd (omega (arith, z))) (λ z. absurd (omega (arith, z)))
             (omega (arith, one-same InLink InLink refl, one-other (s .running) 0 n, one-same (s .running) (s .running) refl))
             (λ y a d. one-other y 0 (λ z. omega (arith, z, a)) ∙ sym (one-other y (s .running) d));
@@ -116,7 +117,7 @@ module _ {s : State} (g : Lawful s) (m : ℕ) (known : m < s .directory .modules
   linked-rest : Rest (stopped child InLink) []
   unfolding stopped created
   linked-rest =
-      park-rest caller-hand (moving (taskAt child (s .running)) InLink)
+      park-rest caller-hand (moving (child .clock) (taskAt child (s .running)) InLink)
       (rest-stopped child 0 (new-rest g m known some (s .running) (g .shape .blank .running) caller-apart))
 
   pub link-settled : Settled (madeReady (stopped child InLink) k)

@@ -84,7 +84,7 @@ pub off-keeps : {s : State} (n : ℕ) → bit (s .directory .defined) n ≡ 1 �
 off-keeps {s} n d g =
     let o = dropping (s .on) n in
     let m = adding (s .signalled) n in
-    settled (shape-on (s .clock) o m (g .shape) (events-off n (g .shape .blank .events) d))
+    settled (shape-on (s .clock) o m (omega arith) (g .shape) (events-off n (g .shape .blank .events) d))
     (rest-on (s .clock) o m (asleep-fewer (s .clock) o m (dropped-le (s .on) n) (g .rest .asleep)) (g .rest))
 
 -- ---- Waking: the walk over those of a queue that are left.
@@ -166,7 +166,7 @@ signal-walk {s} n d g =
     let o = adding (s .on) n in
     let m = adding (s .signalled) n in
     record {
-      shape = shape-on (s .clock) o m (g .shape) (events-on n (g .shape .blank .events) d);
+      shape = shape-on (s .clock) o m (omega arith) (g .shape) (events-on n (g .shape .blank .events) d);
       rest = rest-on (s .clock) o m (record { asleep = λ y c z. absurd (omega (arith, c, z)) }) (g .rest);
       left = λ y. omega arith;
     }

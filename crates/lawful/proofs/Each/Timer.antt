@@ -82,7 +82,7 @@ same-asleep s c a = record { asleep = a .asleep }
 pub timer-walk : {s : State} → Lawful s → Walk timeQueue (queue s timeQueue) (withClock s (s .clock + 1)) []
 timer-walk {s} g =
     record {
-      shape = shape-on (s .clock + 1) (s .on) (s .signalled) (g .shape) (g .shape .blank .events);
+      shape = shape-on (s .clock + 1) (s .on) (s .signalled) (omega arith) (g .shape) (g .shape .blank .events);
       rest = rest-on (s .clock + 1) (s .on) (s .signalled) (same-asleep s (s .clock + 1) (g .rest .asleep)) (g .rest);
       left = λ y. omega arith;
     }
@@ -119,8 +119,8 @@ module _ {s : State} (g : Lawful s) (n : s .running ≢ 0) where
       let set = set-others (s .queues) level front (g .shape .sizes .queues) (omega (arith, worst)) in
       let ev = set eventQueue (λ z. omega (arith, z, best)) in
       settled
-      (enter-other caller (moving (taskAt s (s .running)) Ready) level front (omega (arith, worst)) refl (λ y. omega (arith, count-cons (s .running) y (queue s level))) refl
-      (plain-fields (hand-stands caller .fields) Ready (omega arith) (omega arith) (λ z. omega (arith, z)) (λ z. omega (arith, z)) refl (λ a b. w .fields .needs a b .0 (runs-place (g .shape) n)))
+      (enter-other caller (moving (s .clock) (taskAt s (s .running)) Ready) level front (omega (arith, worst)) refl (λ y. omega (arith, count-cons (s .running) y (queue s level))) refl refl
+      (plain-fields (s .clock) (hand-stands caller .fields) Ready (omega arith) (omega arith) (λ z. omega (arith, z)) (λ z. omega (arith, z)) (λ a b. w .fields .needs a b .0 (runs-place (g .shape) n)))
       (omega arith) (λ z. omega (arith, z, worst)))
       (rest-beside {s = withRunning s 0} {k = s .running} (record {
         directory = refl;

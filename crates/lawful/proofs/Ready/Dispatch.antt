@@ -34,13 +34,13 @@ module _ {s : State} {k : ℕ} {h : List ℕ} {e : ℕ} (i : InHand s k h e) whe
   pub run-it : s .running ≡ 0 → (1 ≤ unitsOf s k → taskAt s k .core ≡ 0 → ⊥) → Shape (withRunning (placed s k Running) k) h e
   unfolding queueFor
   run-it z n =
-      put s k (moving (taskAt s k) Running) (i .shape) (record {
+      put s k (moving (s .clock) (taskAt s k) Running) (i .shape) (record {
         some = i .some;
         low = i .low;
         out = i .out;
         same = refl;
         used = omega arith;
-        fields = plain-fields (hand-stands i .fields) Running (omega arith) (omega arith) (λ z. omega (arith, z)) (λ z. omega (arith, z)) refl n;
+        fields = plain-fields (s .clock) (hand-stands i .fields) Running (omega arith) (omega arith) (λ z. omega (arith, z)) (λ z. omega (arith, z)) n;
         nine = i .shape .sizes .queues;
         others = λ q y d. refl;
         own = λ q l. hand-count i q l ∙ sym (one-other 9 q (λ z. omega (arith, z, l)));
@@ -49,9 +49,10 @@ module _ {s : State} {k : ℕ} {h : List ℕ} {e : ℕ} (i : InHand s k h e) whe
         run-others = λ y a d. one-other k y (λ z. d (sym z)) ∙ sym (one-other (s .running) y (λ c. omega (arith, c, z, a)));
         checks = λ z. absurd (omega (arith, z));
         ends = λ z. absurd (omega (arith, z));
+        since = refl;
         links = omega (arith, one-other Running InLink (λ z. omega (arith, z)));
         link-others = λ y a d. refl;
-        timed = hand-timed i (moving (taskAt s k) Running);
+        timed = hand-timed i (moving (s .clock) (taskAt s k) Running);
         channel = refl;
       })
 

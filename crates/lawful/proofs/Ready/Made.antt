@@ -24,7 +24,7 @@ use Rattle.lawful.specs.Shape.{placeOf, Shape, InHand}
 use Rattle.lawful.specs.Resting.{Asleep, Stuck}
 use Rattle.lawful.proofs.Ready.Cases.{needs, needs-true}
 use Rattle.lawful.proofs.Chained.Small.{none}
-use Rattle.lawful.proofs.Chained.Framed.{Framed, framed, readied-ready, awaits-ready, seats-ready}
+use Rattle.lawful.proofs.Chained.Framed.{Any, Framed, framed, readied-ready, awaits-ready, seats-ready}
 use Rattle.lawful.proofs.Blocks.Sums.{field-kept}
 use Rattle.lawful.proofs.Blocks.Shape.{held-place}
 use Rattle.threads.proofs.Queues.{set-queue, set-others, count-last}
@@ -81,10 +81,10 @@ module _ {s : State} {k : ℕ} {h : List ℕ} {e : ℕ} (i : InHand s k h e) whe
   ready n =
       record {
         shape =
-            enter-other i (moving (taskAt s k) Ready) (levelOf s k) (queue s (levelOf s k) ++ k ∷ []) (omega (arith, worst)) refl (λ y. count-last k y _) refl
-            (plain-fields (hand-stands i .fields) Ready (omega arith) (omega arith) (λ z. omega (arith, z)) (λ z. omega (arith, z)) refl n)
+            enter-other i (moving (s .clock) (taskAt s k) Ready) (levelOf s k) (queue s (levelOf s k) ++ k ∷ []) (omega (arith, worst)) refl (λ y. count-last k y _) refl refl
+            (plain-fields (s .clock) (hand-stands i .fields) Ready (omega arith) (omega arith) (λ z. omega (arith, z)) (λ z. omega (arith, z)) n)
             (omega arith) (λ z. omega (arith, z, worst));
-        frame = framed (readied-ready (λ y. y ≡ k) Lines s s k refl (omega (arith, best, worst)) none);
+        frame = framed (readied-ready (λ y. y ≡ k) Any Lines s s k refl (omega (arith, best, worst)) none);
         stuck = λ level a b. stuck-same {s = s}
             (set-others (s .queues) (levelOf s k) _ (i .shape .sizes .queues) (omega (arith, worst)) (coreQueue level) (λ z. omega (arith, z, worst)))
             refl (same-units (levelOf s k) [] Ready);
@@ -107,9 +107,9 @@ module _ {s : State} {k : ℕ} {h : List ℕ} {e : ℕ} (i : InHand s k h e) whe
       let nine = i .shape .sizes .queues in
       record {
         shape =
-            enter-other i (moving (taskAt s k) InCore) q m (omega (arith, worst)) refl (λ y. count-last k y _) refl
-            (waiting-fields (hand-stands i .fields) (c .0) (c .1)) (omega arith) (λ z. omega (arith, z, worst));
-        frame = framed (awaits-ready (λ y. y ≡ k) Lines s s k refl (omega (arith, best, worst)) none);
+            enter-other i (moving (s .clock) (taskAt s k) InCore) q m (omega (arith, worst)) refl (λ y. count-last k y _) refl refl
+            (waiting-fields (s .clock) (hand-stands i .fields) (c .0) (c .1)) (omega arith) (λ z. omega (arith, z, worst));
+        frame = framed (awaits-ready (λ y. y ≡ k) Any Lines s s k refl refl (omega (arith, best, worst)) none);
         stuck = λ level a b g.
             ⊎-elim
             (λ z. record { stuck = λ j l d. rw (same-units q [] InCore j) (first level (z .1) g j l (queue s (coreQueue (levelOf s k))) refl (sym (set-queue (s .queues) q m nine (omega (arith, worst))) ∙ ap (λ (y : ℕ). getD (set (s .queues) q m) (coreQueue y) []) (sym (z .1)) ∙ d)) })
@@ -151,7 +151,7 @@ module _ {s : State} {k : ℕ} {h : List ℕ} {e : ℕ} (i : InHand s k h e) whe
       let r = ready j (λ a b. omega (arith, b, granted-core i)) in
       record {
         shape = r .shape;
-        frame = framed (seats-ready (λ y. y ≡ k) Lines s s k refl (omega (arith, best i, worst i)) none);
+        frame = framed (seats-ready (λ y. y ≡ k) Any Lines s s k refl (omega (arith, best i, worst i)) none);
         stuck = λ level a b d u. r .stuck level a b (granted-stuck i level d u);
         waiting = λ level a b. ready-core j level a b ∙ granted-core-queue i level;
       }

@@ -35,7 +35,7 @@ pub record RestBut (s : State) (m : List ℕ) (level : ℕ) : Type 0 where
 
 -- what serving a level's core queue touches: those that wait in it
 pub served-frame : (s : State) (level : ℕ) → Framed (λ y. 1 ≤ count y (queue s (coreQueue level))) Any s (served s level)
-served-frame s level = framed (served-ready _ _ s s level (λ y c. c) (λ q. refl) none)
+served-frame s level = framed (served-ready _ Any _ s s level (λ y c. c) (λ q. refl) none)
 
 pub record Serves (s′ : State) (h : List ℕ) (e : ℕ) (m : List ℕ) : Type 0 where
   pub shape : Shape s′ h e

@@ -31,47 +31,47 @@ module _ {s : State} {k : ℕ} {h : List ℕ} {e : ℕ} (i : InHand s k h e) whe
   nine = i .shape .sizes .queues
 
   module _ (n v : ℕ) (p : (bitAnd v (s .directory .defined) ≡ v) × (1 ≤ n) × (n ≤ size v)) where
-    pub await-event : Shape (joining (withTask s k (awaitingEvents (taskAt s k) n v)) eventQueue k) h e
+    pub await-event : Shape (joining (withTask s k (awaitingEvents (s .clock) (taskAt s k) n v)) eventQueue k) h e
     unfolding queueFor
     await-event =
-        enter-other i (awaitingEvents (taskAt s k) n v) eventQueue (queue s eventQueue ++ k ∷ []) (omega arith) refl (λ y. count-last k y _) refl
-        (event-fields (hand-stands i .fields) p) (omega arith) (λ z. omega (arith, z))
+        enter-other i (awaitingEvents (s .clock) (taskAt s k) n v) eventQueue (queue s eventQueue ++ k ∷ []) (omega arith) refl (λ y. count-last k y _) refl refl
+        (event-fields (s .clock) (hand-stands i .fields) p) (omega arith) (λ z. omega (arith, z))
 
-    pub event-rest : {m : List ℕ} → enough s n v ≡ false → Rest s m → Rest (joining (withTask s k (awaitingEvents (taskAt s k) n v)) eventQueue k) m
+    pub event-rest : {m : List ℕ} → enough s n v ≡ false → Rest s m → Rest (joining (withTask s k (awaitingEvents (s .clock) (taskAt s k) n v)) eventQueue k) m
     unfolding enough
     event-rest {m} f r =
         let q = queue s eventQueue ++ k ∷ [] in
-        let same = getD-set-same (s .tasks) k (awaitingEvents (taskAt s k) n v) noTask (omega (arith, i .shape .sizes .tasks, i .low)) in
+        let same = getD-set-same (s .tasks) k (awaitingEvents (s .clock) (taskAt s k) n v) noTask (omega (arith, i .shape .sizes .tasks, i .low)) in
         record {
           asleep = record {
             asleep = λ y c d.
                 ⊎-elim
                 (λ z. rw (z .1, same) f)
-                (λ z. rw (getD-set-other (s .tasks) k y (awaitingEvents (taskAt s k) n v) noTask (z .1))
+                (λ z. rw (getD-set-other (s .tasks) k y (awaitingEvents (s .clock) (taskAt s k) n v) noTask (z .1))
                 (r .asleep .asleep y (omega (arith, rw (set-queue (s .queues) eventQueue q nine (omega arith)) at c, count-last k y (queue s eventQueue), one-other k y (λ w. z .1 (sym w)))) d))
                 (tested y k);
           };
           stuck = λ level lo hi.
               stuck-same {s = s} (set-others (s .queues) eventQueue q nine (omega arith) (coreQueue level) (λ z. omega (arith, z))) refl
-              (λ y. ap (λ (j : ℕ). getD (s .directory .entries) j noEntry .units) (field-kept (λ t. t .program) (s .tasks) k y (awaitingEvents (taskAt s k) n v) noTask refl))
+              (λ y. ap (λ (j : ℕ). getD (s .directory .entries) j noEntry .units) (field-kept (λ t. t .program) (s .tasks) k y (awaitingEvents (s .clock) (taskAt s k) n v) noTask refl))
               (r .stuck level lo hi);
           flowing = record { flowing = λ x c. set-others (s .queues) eventQueue q nine (omega arith) channelQueue (λ z. omega (arith, z)) ∙ r .flowing .flowing x c };
         }
 
   module _ (x : ℕ) where
-    pub await-time : Shape (inTime (withTask s k (awaitingTime (taskAt s k) x)) k) h e
+    pub await-time : Shape (inTime (withTask s k (awaitingTime (s .clock) (taskAt s k) x)) k) h e
     unfolding queueFor inTime
     await-time =
-        let key : ℕ → ℕ = λ a. taskAt (withTask s k (awaitingTime (taskAt s k) x)) a .time in
+        let key : ℕ → ℕ = λ a. taskAt (withTask s k (awaitingTime (s .clock) (taskAt s k) x)) a .time in
         let l = insertedBy key k (queue s timeQueue) in
-        enter i (awaitingTime (taskAt s k) x) timeQueue l (omega arith) refl (λ y. count-placed key k y (queue s timeQueue)) refl
-        (time-fields (hand-stands i .fields)) (omega arith)
-        (rw (set-queue (s .queues) timeQueue l nine (omega arith)) (up-placed key k (queue s timeQueue) (hand-timed i (awaitingTime (taskAt s k) x))))
+        enter i (awaitingTime (s .clock) (taskAt s k) x) timeQueue l (omega arith) refl (λ y. count-placed key k y (queue s timeQueue)) refl refl
+        (time-fields (s .clock) (hand-stands i .fields)) (omega arith)
+        (rw (set-queue (s .queues) timeQueue l nine (omega arith)) (up-placed key k (queue s timeQueue) (hand-timed i (awaitingTime (s .clock) (taskAt s k) x))))
 
-    pub time-rest : {m : List ℕ} → Rest s m → Rest (inTime (withTask s k (awaitingTime (taskAt s k) x)) k) m
+    pub time-rest : {m : List ℕ} → Rest s m → Rest (inTime (withTask s k (awaitingTime (s .clock) (taskAt s k) x)) k) m
     unfolding inTime
     time-rest r =
-        let l = insertedBy (λ a. taskAt (withTask s k (awaitingTime (taskAt s k) x)) a .time) k (queue s timeQueue) in
+        let l = insertedBy (λ a. taskAt (withTask s k (awaitingTime (s .clock) (taskAt s k) x)) a .time) k (queue s timeQueue) in
         let set = set-others (s .queues) timeQueue l nine (omega arith) in
         rest-beside {s = s} {k = k} (record {
           directory = refl;

@@ -7,7 +7,7 @@ use mathlib.Core.List.{[]}
 use Prim.Native.Nat.{ℕ, _+_, _^_, _≤_, _<_}
 use native.Mathlib.Omega.{arith}
 use lib.ListN.{length}
-use lib.Dec.{eqb}
+use lib.Dec.{eqb, leb}
 use borrow.Author.Tests.{eqb-true, eq-eqb, leb-true, ltb-true, not-true, not-false}
 use Rattle.threads.specs.Threads.{count, Apart, BLOCKS, QUEUES}
 use Rattle.words.proofs.Truth.{tested, both, implied}
@@ -20,7 +20,7 @@ use Rattle.tables.specs.State.{State, eventQueue, timeQueue, channelQueue, task
 use Rattle.meaning.specs.Conditions.{undefinedIn}
 use Rattle.meaning.specs.Finish.{pendingOf, pending}
 use Rattle.meaning.specs.Channel.{channelLevel}
-use Rattle.meaning.specs.Rules.{onSignalled, signalledDefined, tasksInPlace, requestsInPlace, queuesInOrder, coreNeeded, owned, checksPending, endingPending, queueFor}
+use Rattle.meaning.specs.Rules.{onSignalled, signalledDefined, tasksInPlace, requestsInPlace, queuesInOrder, coreNeeded, owned, checksPending, endingPending, neverPast, queueFor}
 use Rattle.meaning.proofs.Rules.{Keeps}
 use Rattle.meaning.proofs.Parts.{taskRange, requestRange, taskStands, requestStands, taskFree, requestFree, taskClear, requestClear, Ranges, ranges, Sets, sets, Clears, clears, task-range}
 use Rattle.lawful.specs.Shape.{placeOf, Fields, Stands, Carried, Sizes, Blank, Shape}
@@ -113,7 +113,7 @@ module _ (s : State) (z : Sizes s) (low : (level : ℕ) → poolAt s level < 2 ^
         (λ y. omega (arith, y .1)) (tested (taskAt s k .request) 0)
 
     stands : Stands s (placeOf s [] k) k
-    unfolding endingPending
+    unfolding endingPending neverPast
     stands =
         rw (rest-place s k) (record {
           fields = fields;
@@ -123,6 +123,7 @@ module _ (s : State) (z : Sizes s) (low : (level : ℕ) → poolAt s level < 2 ^
           checks = λ i. pending-of s k (taskAt s k .request) (request-some i) request-low (checked i);
           ends = λ i. pending-some s k (implied (eqb (taskAt s k .place) Ending) (pending s k)
               (all-to (λ k. eqb (taskAt s k .place) Ending implies pending s k) taskBlocks (r .each .endingPending) k a b) (eq-eqb _ _ i));
+          late = leb-true _ _ (all-to (λ k. leb (taskAt s k .since) (s .clock)) taskBlocks (r .each .neverPast) k a b);
         })
 
   -- ---- One request block.

@@ -9,7 +9,7 @@ use lib.Dec.{eqb, leb, ltb}
 use borrow.Author.Tests.{eqb-true, eq-eqb, ne-eqb, leb-true, le-leb, ltb-true, lt-ltb}
 use Rattle.words.specs.Words.{_implies_, size}
 use Rattle.tables.specs.declared.Task.{Task}
-use Rattle.tables.specs.Blocks.{Free, InCore, InEvent, InTime, InCheck, inPlace, requestBlocks}
+use Rattle.tables.specs.Blocks.{Free, InCore, InEvent, InTime, InCheck, waitsIn, sinceIn, requestBlocks}
 use Rattle.tables.specs.State.{State, taskAt, unitsOf}
 use Rattle.meaning.specs.Ready.{needsCore}
 use Rattle.meaning.specs.Rules.{blankTask}
@@ -60,6 +60,7 @@ module _ (s : State) (k : ℕ) (r : taskRange s k ≡ true) (c : taskClear s k �
       true≢false (sym w ∙ ap (λ (x : ℕ). eqb x InCore || eqb x InEvent || eqb x InTime) z ∙ f)
 
   pub fields-of : Fields (s .directory) (taskAt s k .place) (taskAt s k)
+  unfolding sinceIn
   fields-of =
       let t = taskAt s k in
       let i = task-range (s .directory .modules) (unitsOf s k) t r in
@@ -77,7 +78,18 @@ module _ (s : State) (k : ℕ) (r : taskRange s k ≡ true) (c : taskClear s k �
         unneeded = λ z. eqb-true (t .core) 0 (implied (eqb (unitsOf s k) 0) (eqb (t .core) 0) (w .core) (eq-eqb _ _ z));
         waits = λ z. needs-true s k (implied (eqb (t .place) InCore) (needsCore s k) (m .0) (eq-eqb _ _ z));
         needs = λ x y. let o = only x y in (o 1 (λ z. omega (arith, z)) refl, o 2 (λ z. omega (arith, z)) refl, o 6 (λ z. omega (arith, z)) refl, o 7 (λ z. omega (arith, z)) refl, o 8 (λ z. omega (arith, z)) refl);
-        clear = λ n j. inPlace t (t .place) (e .0 j) (e .1 j) (meant (eqb (t .place) InTime) (t .time) (w .time) j) (meant (eqb (t .place) InCheck) (t .request) (w .request) j);
+        clear = λ n j. record {
+          place = t .place;
+          program = t .program;
+          parent = t .parent;
+          core = t .core;
+          start = t .start;
+          count = e .0 j;
+          events = e .1 j;
+          time = meant (eqb (t .place) InTime) (t .time) (w .time) j;
+          since = meant (waitsIn (t .place)) (t .since) (w .since) j;
+          request = meant (eqb (t .place) InCheck) (t .request) (w .request) j;
+        };
         passes = λ z. (v z .events, v z .some, v z .most);
       }
 
@@ -109,6 +121,7 @@ module _ (s : State) (k : ℕ) (f : Fields (s .directory) (taskAt s k .place) (t
   no-request n = ap (λ (t : Task). t .request) clear-of ∙ ap (λ (b : Bool). cond b (taskAt s k .request) 0) (ne-eqb _ InCheck n)
 
   pub of-clear : taskClear s k ≡ true
+  unfolding sinceIn
   of-clear =
       let t = taskAt s k in
       clear-task (unitsOf s k) t (record {
@@ -118,6 +131,7 @@ module _ (s : State) (k : ℕ) (f : Fields (s .directory) (taskAt s k .place) (t
         event = of-meant-both (eqb (t .place) InEvent) (t .count) (t .events) (ap (λ (x : Task). x .count) clear-of) (ap (λ (x : Task). x .events) clear-of);
         time = of-meant (eqb (t .place) InTime) (t .time) (ap (λ (x : Task). x .time) clear-of);
         request = of-meant (eqb (t .place) InCheck) (t .request) (ap (λ (x : Task). x .request) clear-of);
+        since = of-meant (waitsIn (t .place)) (t .since) (ap (λ (x : Task). x .since) clear-of);
       })
 
   -- by the places that are left

@@ -4,7 +4,7 @@ use mathlib.Core.Path.{_≡_, ap}
 use mathlib.Core.Logic.{_≢_, ⊎-elim}
 use Prim.Native.Nat.{ℕ, _^_, _≤_, _+_}
 use native.Mathlib.Omega.{arith}
-use lib.Dec.{eqb}
+use lib.Dec.{eqb, leb}
 use borrow.Author.Tests.{eq-eqb, eqb-true, le-leb, lt-ltb, ne-eqb}
 use Rattle.words.proofs.Truth.{tested, and-of, of-implied}
 use Rattle.words.specs.Words.{_implies_, has}
@@ -130,6 +130,10 @@ module _ {s : State} (g : Lawful s) where
       to-all (λ k. eqb (taskAt s k .place) Ending implies pending s k) taskBlocks
       (λ k a b. of-implied (eqb (taskAt s k .place) Ending) (pending s k) (λ i. let w = stands k a b .ends (eqb-true _ _ i) in some-pending s k (w .0) (w .1)))
 
+  never-past : rules.neverPast s ≡ true
+  unfolding rules.neverPast
+  never-past = to-all (λ k. leb (taskAt s k .since) (s .clock)) taskBlocks (λ k a b. le-leb _ _ (stands k a b .late))
+
   -- with none in hand, a block has a child where it is in LINK
   all-linked : (p : ℕ) → 1 ≤ p → p ≤ taskBlocks → children (s .tasks) p ≡ one (taskAt s p .place) InLink
   all-linked p a b = omega (arith, g .shape .links p a b, one-other p 0 (λ i. omega (arith, i, a)), ap (λ (x : ℕ). one x InLink) (rest-place s p))
@@ -150,6 +154,7 @@ module _ {s : State} (g : Lawful s) where
         owned = all-owned;
         checksPending = checks;
         endingPending = endings;
+        neverPast = never-past;
       }
 
   pub lawful-rules : Keeps s

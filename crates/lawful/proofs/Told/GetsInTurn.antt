@@ -32,7 +32,7 @@ use Rattle.lawful.proofs.Blocks.Cored.{grant, give-back, used-holder}
 use Rattle.lawful.proofs.Ready.Made.{ready-core}
 use Rattle.lawful.proofs.Ready.Served.{RestBut, own, hand, needing, seat, seat-rest, seat-queue}
 use Rattle.lawful.proofs.Each.Given.{freed, freed-rest}
-use Rattle.lawful.proofs.Chained.Stays.{set-at}
+use Rattle.lawful.proofs.Chained.Views.{set-at}
 use Rattle.lawful.proofs.Told.Turns.{Turns, quiet, stays, then-turns}
 
 -- ---- Who holds core where one block changes: as before, where its core and its module stay; none new, where it holds none.
@@ -122,7 +122,7 @@ module _ (s : State) (k level : ℕ) (l : List ℕ) (nine : length (s .queues) �
 module _ {s : State} {k : ℕ} {h : List ℕ} {e : ℕ} (i : InHand s k h e) where
   pub ready-turns : Turns s (readied s k)
   unfolding readied
-  ready-turns = quiet refl (ready-core i) (holders-kept s (readied s k) k (moving (taskAt s k) Ready) refl refl refl)
+  ready-turns = quiet refl (ready-core i) (holders-kept s (readied s k) k (moving (s .clock) (taskAt s k) Ready) refl refl refl)
 
   run-hand : needsCore s k ≡ true → startFor s k < 64 → InHand (givenRun s k) k h e
   run-hand n f =
@@ -140,7 +140,7 @@ module _ {s : State} {k : ℕ} {h : List ℕ} {e : ℕ} (i : InHand s k h e) whe
           new = newcomers level;
           before = refl;
           after = behind level hi;
-          got = λ y c l. inl (holders-kept s (awaitsCore s k) k (moving (taskAt s k) InCore) refl refl refl y c);
+          got = λ y c l. inl (holders-kept s (awaitsCore s k) k (moving (s .clock) (taskAt s k) InCore) refl refl refl y c);
         };
       }
     where

@@ -28,7 +28,7 @@ use Rattle.words.proofs.Counting.{one-other}
 use Rattle.lawful.proofs.Blocks.Members.{queue-place}
 use Rattle.lawful.proofs.Each.Chains.{upward-none}
 use Rattle.lawful.proofs.Each.Finish.{Finishes}
-use Rattle.lawful.proofs.Chained.Stays.{set-own}
+use Rattle.lawful.proofs.Chained.Views.{set-own}
 use Rattle.lawful.proofs.Each.Abort.{done, end-alone, aborted-none, aborted-step, upward-zero, upward-step, starts-abort}
 use Rattle.lawful.proofs.Told.Taken.{some, on, not-again, above, absent, upward-stopped, the-chain, check-takes}
 use Rattle.lawful.proofs.Told.Others.{Other, freed-free, unlinked-parent, others-stay}

@@ -16,7 +16,7 @@ use Rattle.tables.specs.State.{State, coreQueue, withPool, withTask, taskAt, re
 use Rattle.meaning.specs.Ready.{placed, fits, givenRun, readied, seated, serving, served}
 use Rattle.meaning.specs.Finish.{freedTask, freedRequest, givenBack, pending, freedIfDone, freedDone, parentReady, finished, ended, unlinked}
 use Rattle.lawful.specs.Reached.{taken}
-use Rattle.lawful.proofs.Chained.Stays.{set-at, set-own}
+use Rattle.lawful.proofs.Chained.Views.{set-at, set-own}
 
 -- ---- Every task stays in its place or becomes ready, and keeps its parent.
 pub record Calm (s t : State) : Type 0 where

@@ -112,7 +112,7 @@ module _ {s : State} {k : ℕ} {h : List ℕ} {m : List ℕ} (i : InHand s k h 0
 
   ended-turns : Turns s (ended s k)
   unfolding ended
-  ended-turns = chosen (pending s k) (λ e. kept-turns k (moving (taskAt s k) Ending) refl refl refl refl refl) (λ e. finished-turns (quiet-of s k e))
+  ended-turns = chosen (pending s k) (λ e. kept-turns k (moving (s .clock) (taskAt s k) Ending) refl refl refl refl refl) (λ e. finished-turns (quiet-of s k e))
 
 unlinked-turns : (s : State) (k : ℕ) → Turns s (unlinked s k)
 unfolding unlinked
@@ -161,8 +161,8 @@ waiting-turns : (s : State) (k : ℕ) (c : Call) → Turns s (waiting s k c)
 unfolding waiting awaitsEvents awaitsTime inTime
 waiting-turns s k c =
     chosen (eqb (c .kind) 1)
-    (λ e. then-turns (block-turns s k (awaitingEvents (taskAt s k) (c .value) (c .events)) refl refl) (line-turns _ eventQueue _ (λ level lo hi z. omega (arith, z))))
-    (λ e. then-turns (block-turns s k (awaitingTime (taskAt s k) (dueOf s c)) refl refl) (line-turns _ timeQueue _ (λ level lo hi z. omega (arith, z, hi))))
+    (λ e. then-turns (block-turns s k (awaitingEvents (s .clock) (taskAt s k) (c .value) (c .events)) refl refl) (line-turns _ eventQueue _ (λ level lo hi z. omega (arith, z))))
+    (λ e. then-turns (block-turns s k (awaitingTime (s .clock) (taskAt s k) (dueOf s c)) refl refl) (line-turns _ timeQueue _ (λ level lo hi z. omega (arith, z, hi))))
 
 filled-turns : (s : State) → Turns s (channelFilled s)
 unfolding channelFilled
@@ -186,7 +186,7 @@ dispatched-turns s =
 
 stopped-turns : (s : State) (p : ℕ) → Turns s (stopped s p)
 unfolding stopped
-stopped-turns s p = kept-turns (s .running) (moving (taskAt s (s .running)) p) refl refl refl refl refl
+stopped-turns s p = kept-turns (s .running) (moving (s .clock) (taskAt s (s .running)) p) refl refl refl refl refl
 
 -- ---- The calls.
 module _ {s : State} (c : Call) (g : Lawful s) where
@@ -244,7 +244,7 @@ module _ {s : State} (c : Call) (g : Lawful s) where
     unfolding check awaitsRequest
     check-turns =
         chosen (eqb (requestAt s (c .number) .place) Done) (λ e. freed-turns s (c .number))
-        (λ e. kept-turns (s .running) (awaitingRequest (taskAt s (s .running)) (c .number)) refl refl refl refl refl)
+        (λ e. kept-turns (s .running) (awaitingRequest (s .clock) (taskAt s (s .running)) (c .number)) refl refl refl refl refl)
 
     abort-all-turns : Turns s (programCheck s c .state)
     unfolding programCheck

@@ -33,7 +33,7 @@ use Rattle.lawful.proofs.Each.IoDone.{owner}
 
 -- what is kept of a block: all but its place, what it waits for, and its parent
 abbrev pub page : Task → Task
-page t = moving (withParent t 0) Free
+page t = moving 0 (withParent t 0) Free
 
 -- the block y keeps it from s to t
 pub record Same (y : ℕ) (s t : State) : Type 0 where
@@ -61,7 +61,7 @@ filled-tasks s = go (eqb (s .channel) 0 && not (isEmpty (queue s channelQueue)))
 
 -- what making a task ready touches: the task
 pub made-frame : (s : State) (k : ℕ) → Framed (λ j. j ≡ k) Any s (madeReady s k)
-made-frame s k = framed (made-ready _ _ s s k refl refl refl none)
+made-frame s k = framed (made-ready _ Any _ s s k refl refl refl refl none)
 
 module _ {y : ℕ} where
   pub still-holds : {s t : State} → Same y s t → Holds y s → Holds y t
@@ -87,7 +87,7 @@ module _ {y : ℕ} where
   -- ---- Making ready: who holds a run needs none.
   own-same : (s : State) → Holds y s → Same y s (madeReady s y)
   unfolding madeReady readied
-  own-same s h = rw (needs-none y s h) (block-same s y (moving (taskAt s y) Ready) refl refl)
+  own-same s h = rw (needs-none y s h) (block-same s y (moving (s .clock) (taskAt s y) Ready) refl refl)
 
   pub made-same : (s : State) (k : ℕ) → Holds y s → Same y s (madeReady s k)
   made-same s k h = ⊎-elim (λ z. rw (← z .1) (own-same s h)) (λ z. record { same = ap page (made-frame s k .tasks y (z .1)) }) (tested y k)
@@ -110,11 +110,11 @@ module _ {y : ℕ} where
   pub waiting-same : (s : State) (k : ℕ) (c : Call) → Same y s (waiting s k c)
   unfolding waiting awaitsEvents awaitsTime inTime
   waiting-same s k c =
-      either (eqb (c .kind) 1) (λ e. block-same s k (awaitingEvents (taskAt s k) (c .value) (c .events)) refl refl) (λ e. block-same s k (awaitingTime (taskAt s k) (dueOf s c)) refl refl)
+      either (eqb (c .kind) 1) (λ e. block-same s k (awaitingEvents (s .clock) (taskAt s k) (c .value) (c .events)) refl refl) (λ e. block-same s k (awaitingTime (s .clock) (taskAt s k) (dueOf s c)) refl refl)
 
   pub stopped-same : (s : State) (p : ℕ) → Same y s (stopped s p)
   unfolding stopped
-  stopped-same s p = block-same s (s .running) (moving (taskAt s (s .running)) p) refl refl
+  stopped-same s p = block-same s (s .running) (moving (s .clock) (taskAt s (s .running)) p) refl refl
 
   pub filled-same : (s : State) → Same y s (channelFilled s)
   filled-same s = untouched (filled-tasks s)
@@ -125,7 +125,7 @@ module _ {y : ℕ} where
 
   first-same : (s : State) (level : ℕ) → Same y s (runsFirst s level)
   unfolding runsFirst
-  first-same s level = block-same s (hd (queue s (readyQueue level))) (moving (taskAt s (hd (queue s (readyQueue level)))) Running) refl refl
+  first-same s level = block-same s (hd (queue s (readyQueue level))) (moving (s .clock) (taskAt s (hd (queue s (readyQueue level)))) Running) refl refl
 
   pub dispatched-same : (s : State) → Same y s (dispatched s)
   dispatched-same s =
@@ -156,7 +156,7 @@ module _ {y : ℕ} where
   pub ended-same : (s : State) (k : ℕ) → Out y s k → Holds y s → (y ≡ k → pending s k ≡ true) → Same y s (ended s k)
   unfolding ended
   ended-same s k o h p =
-      either (pending s k) (λ e. block-same s k (moving (taskAt s k) Ending) refl refl)
+      either (pending s k) (λ e. block-same s k (moving (s .clock) (taskAt s k) Ending) refl refl)
       (λ e. finished-same s k (λ z. true≢false (sym (p z) ∙ e)) o h)
 
 -- ---- Requests: neither finishing nor ending frees one that is pending.

@@ -35,15 +35,15 @@ use Rattle.lawful.proofs.Told.Ends.{step-ends, step-outcome, refused-le
 use Rattle.lawful.proofs.Each.Signal.{told-on, told-off}
 
 -- ---- SIGNAL: those who are woken change neither set, nor does the dispatch.
-woken-ready : (k : ℕ) (s : State) → Chain (Readies Any Any) s (woken k s)
+woken-ready : (k : ℕ) (s : State) → Chain (Readies Any Any Any) s (woken k s)
 unfolding woken
 woken-ready k s = go (enough s (taskAt s k .count) (taskAt s k .events))
   where
-    go : (b : Bool) → Chain (Readies Any Any) s (if b then madeReady (leaving s eventQueue k) k else s)
-    go true = made-ready Any Any s (leaving s eventQueue k) k refl refl refl (none next leave eventQueue k refl)
+    go : (b : Bool) → Chain (Readies Any Any Any) s (if b then madeReady (leaving s eventQueue k) k else s)
+    go true = made-ready Any Any Any s (leaving s eventQueue k) k refl refl refl refl (none next leave eventQueue k refl)
     go false = none
 
-walk-ready : (l : List ℕ) (s : State) → Chain (Readies Any Any) s (each woken l s)
+walk-ready : (l : List ℕ) (s : State) → Chain (Readies Any Any Any) s (each woken l s)
 unfolding each
 walk-ready [] s = none
 walk-ready (k ∷ l) s = joined (woken-ready k s) (walk-ready l (woken k s))

@@ -136,7 +136,7 @@ module _ {s : State} (g : Lawful s) {y i : ℕ} (h : Holds y s) (p : Pending (s 
     check-same : Same y s (check s c .state)
     unfolding check awaitsRequest
     check-same =
-        either (eqb (requestAt s (c .number) .place) Done) (λ e. freed-same s (c .number)) (λ e. block-same s (s .running) (awaitingRequest (taskAt s (s .running)) (c .number)) refl refl)
+        either (eqb (requestAt s (c .number) .place) Done) (λ e. freed-same s (c .number)) (λ e. block-same s (s .running) (awaitingRequest (s .clock) (taskAt s (s .running)) (c .number)) refl refl)
 
     yield-same : Same y s (dispatchCheck s c .state)
     unfolding dispatchCheck

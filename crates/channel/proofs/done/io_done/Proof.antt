@@ -35,9 +35,6 @@ element-copy-out-x c =
 leave-channel-requires : tie.Need-leave-channel-requires
 leave-channel-requires c κs = search needs
 
-cast-if1 : tie.Need-cast-if1
-cast-if1 c = search needs
-
 free-request-requires : tie.Need-free-request-requires
 free-request-requires c κs = search needs
 
@@ -115,7 +112,6 @@ io-done-spec =
     mul-x
     element-copy-out-x
     leave-channel-requires
-    cast-if1
     free-request-requires
     make-ready-requires
     next-requires

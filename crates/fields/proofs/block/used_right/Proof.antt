@@ -16,11 +16,14 @@ place-right-requires c κs = search needs
 own-right-requires : tie.Need-own-right-requires
 own-right-requires c κs = search needs
 
+since-right-requires : tie.Need-since-right-requires
+since-right-requires c κs = search needs
+
 returns : tie.Need-returns
 returns c =
-    rw (c .before .before .core-right .ensures, c .before .place-right .ensures, c .own-right .ensures)
+    rw (c .before .before .before .core-right .ensures, c .before .before .place-right .ensures, c .before .own-right .ensures, c .since-right .ensures)
     (search used-whole)
 
 pub used-right-spec : {M : Type 1} → statement M
 used-right-spec =
-    tie.close (tie.spec cast-result core-right-requires place-right-requires own-right-requires returns)
+    tie.close (tie.spec cast-result core-right-requires place-right-requires own-right-requires since-right-requires returns)

@@ -16,7 +16,7 @@ join-requires : tie.Need-join-requires
 join-requires c κs = search needs
 
 returns : tie.Need-returns
-returns c = rw (← c .before .moving .ensures) (c .join .ensures)
+returns c = rw (c .before .moving .ensures) at (c .join .ensures)
 
 pub put-in-spec : {M : Type 1} → statement M
 put-in-spec =

@@ -1,5 +1,4 @@
 -- `turns::timer` meets its contract: the clock goes on by 1, and where N divides it the time waiters are looked at.
-use borrow.Author.Needs.{needs}
 use native.Mathlib.Omega.{arith}
 use borrow.Author.Tests.{eq-eqb, ne-eqb}
 use Rattle.meaning.specs.Services.{timer}
@@ -16,7 +15,7 @@ rem-if1 c = omega (arith, c .before .before .before .before .pre .0 .state .shap
 wake-time-requires : tie.Need-wake-time-requires
 wake-time-requires c κs =
     let g = c .before .before .before .before .before .pre .0 in
-    (g .pointers, clock-shape _ (g .state .shape))
+    (g .pointers, clock-shape _ (omega arith) (g .state .shape))
 
 returns : tie.Need-returns
 unfolding timer

@@ -16,6 +16,9 @@ mul-x c = search needs
 element-copy-out-x : tie.Need-element-copy-out-x
 element-copy-out-x c = let w = c .pre .0 in omega (arith, member-low (w .shape) (c .args .k) _ (w .low) (w .here))
 
+cast-enough-on : tie.Need-cast-enough-on
+cast-enough-on c = search needs
+
 enough-on-requires : tie.Need-enough-on-requires
 enough-on-requires c κs = search needs
 
@@ -25,15 +28,15 @@ wake-requires c κs = search needs
 returns : tie.Need-returns
 unfolding wokenIn woken enough
 returns c =
-    let q = c .before .before .before .if1 .taken in
+    let q = c .before .before .before .before .if1 .taken in
     rw (eq-eqb _ _ q, sym (c .before .before .enough-on .ensures) ∙ c .before .if2 .taken) (rw q at (c .wake .ensures))
 
 returns-2 : tie.Need-returns-2
 unfolding wokenIn woken enough
 returns-2 c =
     record {
-      sound = c .before .before .before .before .pre .0 .sound;
-      reads = rw (eq-eqb _ _ (c .before .before .if1 .taken), sym (c .before .enough-on .ensures) ∙ c .if2 .left);
+      sound = c .before .before .before .before .before .pre .0 .sound;
+      reads = rw (eq-eqb _ _ (c .before .before .before .if1 .taken), sym (c .before .enough-on .ensures) ∙ c .if2 .left);
     }
 
 wake-requires-2 : tie.Need-wake-requires-2
@@ -60,6 +63,7 @@ wake-if-due-spec =
     (tie.spec
     mul-x
     element-copy-out-x
+    cast-enough-on
     enough-on-requires
     wake-requires
     returns

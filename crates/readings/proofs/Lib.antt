@@ -1,0 +1,3 @@
+pub mod Behind
+pub mod Gathered
+pub mod Unique
