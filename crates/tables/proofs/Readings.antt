@@ -27,7 +27,14 @@ pub waits-not : (p : ℕ) → (InCore ≤ p → p ≤ Ending → ⊥) → waitsI
 unfolding waitsIn _among_
 waits-not p n =
     let other : (q : ℕ) → InCore ≤ q → q ≤ Ending → q ≡ p → ⊥ = λ q a b z. n (omega (arith, a, z)) (omega (arith, b, z)) in
-    rw (ne-eqb InCore p (other InCore (omega arith) (omega arith)), ne-eqb InEvent p (other InEvent (omega arith) (omega arith)), ne-eqb InTime p (other InTime (omega arith) (omega arith)), ne-eqb InLink p (other InLink (omega arith) (omega arith)), ne-eqb InCheck p (other InCheck (omega arith) (omega arith)), ne-eqb Ending p (other Ending (omega arith) (omega arith)))
+    rw (
+      ne-eqb InCore p (other InCore (omega arith) (omega arith)),
+      ne-eqb InEvent p (other InEvent (omega arith) (omega arith)),
+      ne-eqb InTime p (other InTime (omega arith) (omega arith)),
+      ne-eqb InLink p (other InLink (omega arith) (omega arith)),
+      ne-eqb InCheck p (other InCheck (omega arith) (omega arith)),
+      ne-eqb Ending p (other Ending (omega arith) (omega arith)),
+    )
 
 pub waits-within : (p : ℕ) → waitsIn p ≡ true → (InCore ≤ p) × (p ≤ Ending)
 waits-within p e =

@@ -25,7 +25,7 @@ use Rattle.meaning.specs.Services.{Effect, stopped, created, freemain, link, en
 use Rattle.meaning.proofs.Deeds.{Shown, every-deed}
 use Rattle.lawful.specs.Reached.{First}
 use Rattle.lawful.proofs.Ready.Newly.{first-best}
-use Rattle.lawful.proofs.Ready.Cases.{kept as dispatch-kept, none-ready, dispatches}
+use Rattle.lawful.proofs.Ready.Cases.{by-dispatch}
 use Rattle.lawful.proofs.Each.Calls.{holds-new, holds-stopped}
 use Rattle.lawful.proofs.Chained.Small as M
 use Rattle.lawful.proofs.Chained.Small.{Waiter, Comes, itself, event, time, request, Enters, to-ready, Block, moves, awaits, sleeps, checks, cores, unlinks, makes, frees, asks, goes, drops, joins, leads, leaves, sorts, Small, ticks, tells, stops, carries, tasksFree, requestsFree, block, lines, Turn, small, runs, Chain, none, _next_, kept, widened, joined}
@@ -258,10 +258,7 @@ module _ (o : State) (c : Call) where
   first-chain s level z f h = h next runs (readyQueue level) (hd (queue s (readyQueue level))) z f
 
   pub dispatched-chain : (s : State) → Chain (Turn o c) o s → Chain (Turn o c) o (dispatched s)
-  dispatched-chain s h =
-      ⊎-elim
-      (λ z. ⊎-elim (λ b. rw (none-ready s (z .1) (b .1)) h) (λ b. rw (dispatches s (z .1) (b .1)) (first-chain s (bestReady s) (z .1) (first-best s (b .1)) h)) (tested (bestReady s) 0))
-      (λ z. rw (dispatch-kept s (z .1)) h) (tested (s .running) 0)
+  dispatched-chain s h = by-dispatch s (Chain (Turn o c) o) h (λ z b. first-chain s (bestReady s) z (first-best s b) h)
 
   pub turn-chain : Chain (Turn o c) o (dispatched (effect o c .state))
   turn-chain = dispatched-chain (effect o c .state) (widened (λ s t. small) effect-chain)

@@ -1,7 +1,7 @@
 -- Needing core, the best level and dispatching, case by case: what each gives where its tests have gone one way.
 use mathlib.Core.Bool.{Bool, true, false}
 use mathlib.Core.Path.{_≡_, refl}
-use mathlib.Core.Logic.{_≢_}
+use mathlib.Core.Logic.{_≢_, ⊎-elim}
 use Prim.Native.Nat.{ℕ, _≤_, _<_}
 use native.Mathlib.Omega.{arith}
 use lib.Dec.{eqb, ltb}
@@ -9,7 +9,7 @@ use borrow.Author.Tests.{eqb-true, ltb-true, eq-eqb, ne-eqb, lt-ltb}
 use Rattle.words.specs.Words.{isEmpty}
 use Rattle.tables.specs.State.{State, taskAt, queue, unitsOf}
 use Rattle.meaning.specs.Ready.{needsCore, bestReady, runsFirst, dispatched}
-use Rattle.words.proofs.Truth.{both}
+use Rattle.words.proofs.Truth.{tested, both}
 
 -- ---- Needing core.
 pub needs : (s : State) (k : ℕ) → unitsOf s k ≢ 0 → taskAt s k .core ≡ 0 → needsCore s k ≡ true
@@ -65,3 +65,10 @@ module _ (s : State) where
   pub dispatches : s .running ≡ 0 → bestReady s ≢ 0 → dispatched s ≡ runsFirst s (bestReady s)
   unfolding dispatched
   dispatches r n = rw (eq-eqb _ _ r, ne-eqb _ _ n)
+
+  -- what holds of s, and where a task is dispatched of the state with that task running, holds after the dispatch
+  pub by-dispatch : (P : State → Type 0) → P s → (s .running ≡ 0 → bestReady s ≢ 0 → P (runsFirst s (bestReady s))) → P (dispatched s)
+  by-dispatch P h f =
+      ⊎-elim
+      (λ z. ⊎-elim (λ b. rw (none-ready (z .1) (b .1)) h) (λ b. rw (dispatches (z .1) (b .1)) (f (z .1) (b .1))) (tested (bestReady s) 0))
+      (λ z. rw (kept (z .1)) h) (tested (s .running) 0)

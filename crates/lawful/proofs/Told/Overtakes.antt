@@ -27,7 +27,7 @@ use Rattle.words.specs.Counting.{bit}
 use Rattle.lawful.specs.Resting.{Rest, Lawful, Aborting}
 use Rattle.lawful.specs.Accepts.{Accepts}
 use borrow.Author.Tests.{eqb-true}
-use Rattle.lawful.proofs.Ready.Cases.{best-some, kept, none-ready, dispatches}
+use Rattle.lawful.proofs.Ready.Cases.{best-some, by-dispatch}
 use Rattle.words.proofs.Counting.{one-same}
 use Rattle.threads.proofs.Queues.{count-cons}
 use Rattle.lawful.proofs.Blocks.Leave.{leave, stop}
@@ -179,10 +179,7 @@ first-turns s level l =
     then-turns (line-turns s (readyQueue level) _ (λ i lo hi z. omega (arith, z, l, lo))) (kept-turns (hd (queue s (readyQueue level))) _ refl refl refl refl refl)
 
 pub dispatched-turns : (s : State) → Turns s (dispatched s)
-dispatched-turns s =
-    ⊎-elim
-    (λ z. ⊎-elim (λ b. rw (none-ready s (z .1) (b .1)) (stays s)) (λ b. rw (dispatches s (z .1) (b .1)) (first-turns s (bestReady s) (best-some s (b .1) .1))) (tested (bestReady s) 0))
-    (λ z. rw (kept s (z .1)) (stays s)) (tested (s .running) 0)
+dispatched-turns s = by-dispatch s (Turns s) (stays s) (λ z b. first-turns s (bestReady s) (best-some s b .1))
 
 stopped-turns : (s : State) (p : ℕ) → Turns s (stopped s p)
 unfolding stopped

@@ -27,7 +27,7 @@ use Rattle.lawful.proofs.Blocks.Sums.{field-kept}
 use Rattle.lawful.proofs.Blocks.Ask.{pending-kept}
 use Rattle.lawful.proofs.Chained.Small.{none}
 use Rattle.lawful.proofs.Chained.Framed.{Any, Framed, framed, made-ready, frame-requests}
-use Rattle.lawful.proofs.Ready.Cases.{kept, none-ready, dispatches}
+use Rattle.lawful.proofs.Ready.Cases.{by-dispatch}
 use Rattle.lawful.proofs.Each.Given.{back-frame}
 use Rattle.lawful.proofs.Each.IoDone.{owner}
 
@@ -128,10 +128,7 @@ module _ {y : ℕ} where
   first-same s level = block-same s (hd (queue s (readyQueue level))) (moving (s .clock) (taskAt s (hd (queue s (readyQueue level)))) Running) refl refl
 
   pub dispatched-same : (s : State) → Same y s (dispatched s)
-  dispatched-same s =
-      ⊎-elim
-      (λ z. ⊎-elim (λ b. rw (none-ready s (z .1) (b .1)) (untouched refl)) (λ b. rw (dispatches s (z .1) (b .1)) (first-same s (bestReady s))) (tested (bestReady s) 0))
-      (λ z. rw (kept s (z .1)) (untouched refl)) (tested (s .running) 0)
+  dispatched-same s = by-dispatch s (Same y s) (untouched refl) (λ z b. first-same s (bestReady s))
 
   -- ---- Giving core back, finishing and ending, of another task; ending of a task with a request pending.
   pub back-same : (s : State) (k : ℕ) → y ≢ k → Out y s k → Same y s (givenBack s k)

@@ -32,7 +32,7 @@ use Rattle.lawful.proofs.Blocks.Sums.{field-kept}
 use Rattle.lawful.proofs.Blocks.Shape.{held-place, rest-place}
 use Rattle.lawful.proofs.Blocks.Cored.{used-holder}
 use Rattle.lawful.proofs.Blocks.Members.{level-best, level-worst, not-waiting, runs-place}
-use Rattle.lawful.proofs.Ready.Cases.{kept, none-ready, dispatches}
+use Rattle.lawful.proofs.Ready.Cases.{by-dispatch}
 use Rattle.lawful.proofs.Tested.Pendings.{quiet-of, some-pending}
 use Rattle.lawful.proofs.Each.IoDone.{off, owner, done-first, transferred-keeps}
 use Rattle.lawful.proofs.Each.Abort.{aborted-none, aborted-step, upward-zero, abort-next, starts-abort}
@@ -200,10 +200,7 @@ module _ {s : State} (g : Lawful s) {y i : ℕ} (h : Holds y s) (p : Pending (s 
 -- ---- All of them, by the list of deeds.
 dispatched-asks : (s : State) → dispatched s .requests ≡ s .requests
 unfolding runsFirst
-dispatched-asks s =
-    ⊎-elim
-    (λ z. ⊎-elim (λ b. rw (none-ready s (z .1) (b .1)) refl) (λ b. rw (dispatches s (z .1) (b .1)) refl) (tested (bestReady s) 0))
-    (λ z. rw (kept s (z .1)) refl) (tested (s .running) 0)
+dispatched-asks s = by-dispatch s (λ (u : State). u .requests ≡ s .requests) refl (λ z b. refl)
 
 module _ {s : State} {c : Call} (g : Lawful s) (a : Accepts s c) {y i : ℕ} (h : Holds y s) (p : Pending (s .requests) y i) where
   effect-same : (c .code ≡ IO-DONE → (j : ℕ) × Pending (effect s c .state .requests) y j) → Same y s (effect s c .state)

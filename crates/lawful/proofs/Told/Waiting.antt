@@ -21,13 +21,13 @@ use Rattle.tables.specs.State.{State, eventQueue, timeQueue, withClock, taskAt,
 use Rattle.tables.proofs.Readings.{waits-within}
 use Rattle.calls.specs.declared.Call.{Call}
 use Rattle.calls.specs.Calls.{TIMER}
-use Rattle.meaning.specs.Ready.{madeReady, bestReady, runsFirst, dispatched}
+use Rattle.meaning.specs.Ready.{madeReady, runsFirst, dispatched}
 use Rattle.meaning.specs.Services.{Effect, timely, timer, deeds, deedOf, effect}
 use Rattle.meaning.proofs.Deeds.{deed-at}
 use Rattle.lawful.specs.Resting.{Lawful}
 use Rattle.lawful.proofs.Blocks.Shape.{rest-place}
 use Rattle.lawful.proofs.Blocks.Members.{member-event, member-time, member-place, runs-place}
-use Rattle.lawful.proofs.Ready.Cases.{kept, none-ready, dispatches}
+use Rattle.lawful.proofs.Ready.Cases.{by-dispatch}
 use Rattle.lawful.proofs.Each.Finish.{parent-links}
 use Rattle.lawful.proofs.Chained.Small.{Waiter, Comes, itself, event, time, parent, request}
 use Rattle.lawful.proofs.Chained.Dated.{Anew, dated}
@@ -109,10 +109,7 @@ timer-clock s c = go (eqb ((s .clock + 1) % s .directory .every) 0)
 
 dispatched-clock : (s : State) → dispatched s .clock ≡ s .clock
 unfolding runsFirst
-dispatched-clock s =
-    ⊎-elim
-    (λ z. ⊎-elim (λ b. rw (none-ready s (z .1) (b .1)) refl) (λ b. rw (dispatches s (z .1) (b .1)) refl) (tested (bestReady s) 0))
-    (λ z. rw (kept s (z .1)) refl) (tested (s .running) 0)
+dispatched-clock s = by-dispatch s (λ (u : State). u .clock ≡ s .clock) refl (λ z b. refl)
 
 pub ticks-on : (s : State) (c : Call) → c .code ≡ TIMER → dispatched (effect s c .state) .clock ≡ s .clock + 1
 unfolding deeds deedOf
