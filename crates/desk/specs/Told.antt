@@ -7,6 +7,7 @@ use Rattle.lines.specs.Lines.{room, textOf, answerOf}
 use Rattle.lines.specs.declared.Line.{Line}
 use Rattle.readings.specs.Readings.{changedOf, begunOf}
 use Rattle.tables.specs.declared.Tables.{Tables}
+use Rattle.tables.specs.Blocks.{taskBlocks}
 use Rattle.desk.specs.declared.telling.Wish.{Wish}
 use Rattle.desk.specs.declared.telling.Wish.the-variants.{Numbers, Words, Readings}
 
@@ -20,7 +21,7 @@ pub record Ends (xs ys : List ℕ) : Type 0 where
 abbrev pub Tells : Wish → Tables → Tables → Answer → List ℕ → Type 0
 Tells Numbers before after a xs = xs ≡ answerOf a
 Tells Words before after a xs = Ends xs (begunOf before after)
-Tells Readings before after a xs = xs ≡ answerOf a ++ changedOf before after 24
+Tells Readings before after a xs = xs ≡ answerOf a ++ changedOf before after taskBlocks
 
 -- what the load's line is: its three numbers and nothing else, or words
 abbrev pub TellsLoad : Wish → Answer → List ℕ → Type 0

@@ -20,5 +20,6 @@ pub mod UnderRead
 pub mod Throughout
 pub mod Signalling
 pub mod Signalled
+pub mod Clock
 pub mod Waiting
 pub mod Waited

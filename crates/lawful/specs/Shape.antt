@@ -74,7 +74,7 @@ pub record Stands (s : State) (p y : ℕ) : Type 0 where
   pub freeTasks : bit (s .freeTasks) y ≡ one p Free
   pub checks : p ≡ InCheck → Pending (s .requests) y (taskAt s y .request)
   pub ends : p ≡ Ending → (r : ℕ) × Pending (s .requests) y r
-  pub late : taskAt s y .since ≤ s .clock
+  pub since : taskAt s y .since ≤ s .clock
 
 -- ---- One request block: "A request block is free, queued, on the channel or done", "a used request's owner is a used task".
 pub record Carried (s : State) (h : List ℕ) (r : ℕ) : Type 0 where

@@ -14,13 +14,20 @@ use Rattle.calls.specs.Calls.{TIMER, callOf}
 use Rattle.meaning.specs.Step.{stepOf}
 use Rattle.lawful.specs.Reached.{afterCalls}
 
+-- the place of the task k, and its reading
+abbrev pub placeIn : Tables → ℕ → ℕ
+placeIn t k = taskAt (read t) k .place
+
+abbrev pub readingIn : Tables → ℕ → ℕ
+readingIn t k = taskAt (read t) k .since
+
 -- "free, ready or running": in any other place a task waits
 abbrev pub DoesNotWait : ℕ → Type 0
 DoesNotWait p = (p ≡ Free) ⊎ ((p ≡ Ready) ⊎ (p ≡ Running))
 
 -- the task k is in the place p, before these calls and after each of them, made one after the other from t on
 pub record StaysIn (k p : ℕ) (t : Tables) (calls : List (List ℕ)) : Type 0 where
-  pub there : (before behind : List (List ℕ)) → calls ≡ before ++ behind → taskAt (read (afterCalls t before)) k .place ≡ p
+  pub there : (before behind : List (List ℕ)) → calls ≡ before ++ behind → placeIn (afterCalls t before) k ≡ p
 
 -- how many cycles go by in these calls: how many of them are timer interrupts that are accepted
 unfoldable pub cycles : Tables → List (List ℕ) → ℕ

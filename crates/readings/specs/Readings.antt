@@ -6,7 +6,7 @@ use Prim.Native.Nat.{ℕ, zero, suc}
 use lib.Dec.{eqb}
 use Rattle.words.specs.Words.{if_then_else_}
 use Rattle.text.specs.Decimals.{spelling}
-use Rattle.tables.specs.Blocks.{waitsIn}
+use Rattle.tables.specs.Blocks.{taskBlocks, waitsIn}
 use Rattle.tables.specs.declared.Task.{Task}
 use Rattle.tables.specs.declared.Tables.{Tables}
 use Rattle.tables.specs.State.{read, taskAt}
@@ -60,4 +60,4 @@ toldOf t [] = []
 toldOf t (k ∷ l) = sinceOf (readingOf t k) ++ namesOf (k ∷ l)
 
 abbrev pub begunOf : Tables → Tables → List ℕ
-begunOf before after = toldOf after (beginners before after 24)
+begunOf before after = toldOf after (beginners before after taskBlocks)

@@ -9,11 +9,12 @@ ghost use mathlib.Core.Path.{_≡_};
 ghost use Prim.Native.Nat.{_+_, _≤_};
 ghost use lib.ListN.{getD};
 ghost use Rattle.lines.specs.Lines.{room, Fits};
+ghost use Rattle.tables.specs.Blocks.{taskBlocks};
 ghost use Rattle.readings.specs.Readings.{begins, alone, beginners, namesOf};
 
 // The lowest of them; 0 where there is none.
 pub fn first(before: Tables, after: Tables) -> usize
-    ensures { λ r. ⌜ r ≡ getD (beginners before after 24) 0 0 ⌝ }
+    ensures { λ r. ⌜ r ≡ getD (beginners before after taskBlocks) 0 0 ⌝ }
 {
     let mut r: usize = 0;
     let mut k: usize = 0;
@@ -29,7 +30,7 @@ pub fn first(before: Tables, after: Tables) -> usize
 // The line with all of them behind it, by number, each behind a space.
 pub fn named(l: Line, before: Tables, after: Tables) -> Line
     requires { ⌜ l .used + 90 ≤ room ⌝ }
-    ensures { λ r. ⌜ Fits l (namesOf (beginners before after 24)) 72 r ⌝ }
+    ensures { λ r. ⌜ Fits l (namesOf (beginners before after taskBlocks)) 72 r ⌝ }
 {
     let mut r = l;
     let mut k: usize = 0;
@@ -42,7 +43,7 @@ pub fn named(l: Line, before: Tables, after: Tables) -> Line
 
 // The line with one of them, where it is one.
 fn name(l: Line, k: u64, begins: bool) -> Line
-    requires { ⌜ (l .used + 21 ≤ room) × (k ≤ 24) ⌝ }
+    requires { ⌜ (l .used + 21 ≤ room) × (k ≤ taskBlocks) ⌝ }
     ensures { λ r. ⌜ Fits l (namesOf (alone begins k)) 3 r ⌝ }
 {
     if begins { field(l, b" ", k) } else { l }

@@ -11,12 +11,13 @@ use tables::Tables;
 use tables::names::TASK_COUNT;
 ghost use Prim.Native.Nat.{_+_, _≤_};
 ghost use Rattle.lines.specs.Lines.{room, Fits};
+ghost use Rattle.tables.specs.Blocks.{taskBlocks};
 ghost use Rattle.readings.specs.Readings.{changeOf, changedOf, sinceOf, begunOf};
 
 // The line with each task block behind it that has another reading than before, and its reading: " 4@17 6@0".
 pub fn changed(l: Line, before: Tables, after: Tables) -> Line
     requires { ⌜ l .used + 346 ≤ room ⌝ }
-    ensures { λ r. ⌜ Fits l (changedOf before after 24) 336 r ⌝ }
+    ensures { λ r. ⌜ Fits l (changedOf before after taskBlocks) 336 r ⌝ }
 {
     let mut r = l;
     let mut k: usize = 0;
@@ -29,7 +30,7 @@ pub fn changed(l: Line, before: Tables, after: Tables) -> Line
 
 // The line with one of them, where its reading is another.
 fn change(l: Line, k: u64, was: u32, is: u32) -> Line
-    requires { ⌜ (l .used + 24 ≤ room) × (k ≤ 24) ⌝ }
+    requires { ⌜ (l .used + 24 ≤ room) × (k ≤ taskBlocks) ⌝ }
     ensures { λ r. ⌜ Fits l (changeOf k was is) 14 r ⌝ }
 {
     if was == is {

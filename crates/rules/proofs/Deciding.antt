@@ -53,7 +53,7 @@ module _ (s : State) (k : ℕ) where
     waiter : waits ≡ true
     check : checks ≡ true
     ending : ends ≡ true
-    late : not-past ≡ true
+    since : not-past ≡ true
 
   record RequestPasses : Type 0 where
     range : requestRange s k ≡ true
@@ -65,8 +65,8 @@ module _ (s : State) (k : ℕ) where
   task-parts : taskPasses s k ≡ true → TaskPasses
   unfolding taskPasses needsCore
   task-parts e =
-      let late = both _ _ e in
-      let pending = both _ _ (late .0) in
+      let since = both _ _ e in
+      let pending = both _ _ (since .0) in
       let waiter = both _ _ (pending .0) in
       let place = both _ _ (waiter .0) in
       let needs = both _ _ (place .0) in
@@ -82,7 +82,7 @@ module _ (s : State) (k : ℕ) where
         waiter = waiter .1;
         check = asked .0;
         ending = asked .1;
-        late = late .1;
+        since = since .1;
       }
 
   task-whole : TaskPasses → taskPasses s k ≡ true
@@ -91,7 +91,7 @@ module _ (s : State) (k : ℕ) where
       let fields = and-of _ _ (and-of _ _ (p .range) (p .clear)) (p .needs) in
       let place = and-of _ _ (p .stands) (p .free) in
       let pending = and-of _ _ (p .check) (p .ending) in
-      and-of _ _ (and-of _ _ (and-of _ _ (and-of _ _ fields place) (p .waiter)) pending) (p .late)
+      and-of _ _ (and-of _ _ (and-of _ _ (and-of _ _ fields place) (p .waiter)) pending) (p .since)
 
   request-parts : requestPasses s k ≡ true → RequestPasses
   unfolding requestPasses
@@ -195,7 +195,7 @@ module _ (s : State) where
               owned = to-all (ownedAt s) requestBlocks (λ k l h. sym (used-owner s (λ k l h. t k l h .free) task k (r k l h .range)) ∙ r k l h .owner);
               checksPending = to-all (checks s) taskBlocks (λ k l h. t k l h .check);
               endingPending = to-all (ends s) taskBlocks (λ k l h. t k l h .ending);
-              neverPast = to-all (not-past s) taskBlocks (λ k l h. t k l h .late);
+              neverPast = to-all (not-past s) taskBlocks (λ k l h. t k l h .since);
             };
         waiters = λ k l h. t k l h .waiter;
       })
@@ -213,7 +213,7 @@ module _ (s : State) where
           waiter = waiters k l h;
           check = all-to (checks s) taskBlocks (p .checksPending) k l h;
           ending = all-to (ends s) taskBlocks (p .endingPending) k l h;
-          late = all-to (not-past s) taskBlocks (p .neverPast) k l h;
+          since = all-to (not-past s) taskBlocks (p .neverPast) k l h;
         }
 
     request-passes : (k : ℕ) → 1 ≤ k → k ≤ requestBlocks → RequestPasses s k

@@ -111,7 +111,7 @@ module _ (s : State) (r : ℕ) (x : Request) where
             freeTasks = w .freeTasks;
             checks = u .checks y a b;
             ends = u .ends y a b;
-            late = w .late;
+            since = w .since;
           };
           requests = ask-carried;
           none = λ q. counted q 0 (λ z. omega (arith, z)) ∙ g .none q;

@@ -44,7 +44,7 @@ stands-same {s} {s′} {p} {p′} {y} c e w =
       freeTasks = rw e (c .freeTasks ∙ w .freeTasks);
       checks = λ z. rw (c .requests, c .block) (w .checks (sym e ∙ z));
       ends = λ z. rw (c .requests) (w .ends (sym e ∙ z));
-      late = omega (arith, w .late, c .clock, ap (λ (t : Task). t .since) (c .block));
+      since = omega (arith, w .since, c .clock, ap (λ (t : Task). t .since) (c .block));
     }
 
 -- ---- The law. The task blocks ts are those of s but for the block k; r runs, i are idle, p are the pools, l the queues.

@@ -83,7 +83,7 @@ module _ (s : State) (k c a level x : ℕ) where
           freeTasks = w .freeTasks;
           checks = λ p. rw (kept (λ t. t .request) refl k) (w .checks p);
           ends = w .ends;
-          late = rw (kept (λ t. t .since) refl k) (w .late);
+          since = rw (kept (λ t. t .since) refl k) (w .since);
         })
 
     pub recore : Shape coring h e

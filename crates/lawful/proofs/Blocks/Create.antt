@@ -79,7 +79,7 @@ module _ {s : State} {h : List ℕ} (g : Shape s h 0) (k m p : ℕ) (some : 1 �
         freeTasks = dropped-same (s .freeTasks) k ∙ sym (one-other Hand Free (λ z. omega (arith, z)));
         checks = λ z. absurd (omega (arith, z));
         ends = λ z. absurd (omega (arith, z));
-        late = omega (arith, ap (λ (t : Task). t .since) same);
+        since = omega (arith, ap (λ (t : Task). t .since) same);
       })
 
   rank : ℕ → ℕ

@@ -59,7 +59,7 @@ module _ {s : State} {k : ℕ} {h : List ℕ} {e : ℕ} (i : InHand s k h e) (co
         freeTasks = added-same (s .freeTasks) k ∙ sym (one-same Free Free refl);
         checks = λ z. absurd (omega (arith, z));
         ends = λ z. absurd (omega (arith, z));
-        late = omega (arith, ap (λ (t : Task). t .since) same);
+        since = omega (arith, ap (λ (t : Task). t .since) same);
       })
 
   links : (y : ℕ) → 1 ≤ y → y ≤ taskBlocks → children (set (s .tasks) k noTask) y ≡ one (placeOf freed h y) InLink + one y 0

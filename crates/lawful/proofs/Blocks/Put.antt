@@ -83,7 +83,7 @@ module _ (s : State) (k : ℕ) (x : Task) where
               ∙ one-other Hand Free (λ z. omega (arith, z)) ∙ sym (one-other (x .place) Free (λ z. omega (arith, z, u .used)));
           checks = λ z. rw put-same (u .checks z);
           ends = u .ends;
-          late = rw (put-same, u .since) (since-low (s .clock) (x .place));
+          since = rw (put-same, u .since) (since-low (s .clock) (x .place));
         })
 
     put-links : (y : ℕ) → 1 ≤ y → y ≤ taskBlocks → children (set (s .tasks) k x) y ≡ one (placeOf (putting l r) h y) InLink + one y e′

@@ -58,7 +58,7 @@ module _ (s : State) (k : ℕ) where
           freeTasks = w .freeTasks ∙ one-other _ Free (u .used) ∙ sym (one-other Hand Free (λ z. omega (arith, z)));
           checks = λ z. absurd (omega (arith, z));
           ends = λ z. absurd (omega (arith, z));
-          late = w .late;
+          since = w .since;
         })
 
     pub take : Shape (taking l r) (k ∷ h) e′

@@ -63,7 +63,7 @@ module _ {s : State} {h : List ℕ} {e : ℕ} (g : Shape s h e) (k : ℕ) (some 
         freeTasks = w .freeTasks;
         checks = λ p. rw (kept (λ t. t .request) refl k) (w .checks p);
         ends = w .ends;
-        late = rw (kept (λ t. t .since) refl k) (w .late);
+        since = rw (kept (λ t. t .since) refl k) (w .since);
       })
 
   lone-links : (y : ℕ) → 1 ≤ y → y ≤ taskBlocks → children (unlinked s k .tasks) y ≡ one (placeOf (unlinked s k) h y) InLink + one y 0

@@ -123,7 +123,7 @@ module _ (s : State) (z : Sizes s) (low : (level : ℕ) → poolAt s level < 2 ^
           checks = λ i. pending-of s k (taskAt s k .request) (request-some i) request-low (checked i);
           ends = λ i. pending-some s k (implied (eqb (taskAt s k .place) Ending) (pending s k)
               (all-to (λ k. eqb (taskAt s k .place) Ending implies pending s k) taskBlocks (r .each .endingPending) k a b) (eq-eqb _ _ i));
-          late = leb-true _ _ (all-to (λ k. leb (taskAt s k .since) (s .clock)) taskBlocks (r .each .neverPast) k a b);
+          since = leb-true _ _ (all-to (λ k. leb (taskAt s k .since) (s .clock)) taskBlocks (r .each .neverPast) k a b);
         })
 
   -- ---- One request block.

@@ -132,7 +132,7 @@ module _ {s : State} (g : Lawful s) where
 
   never-past : rules.neverPast s ≡ true
   unfolding rules.neverPast
-  never-past = to-all (λ k. leb (taskAt s k .since) (s .clock)) taskBlocks (λ k a b. le-leb _ _ (stands k a b .late))
+  never-past = to-all (λ k. leb (taskAt s k .since) (s .clock)) taskBlocks (λ k a b. le-leb _ _ (stands k a b .since))
 
   -- with none in hand, a block has a child where it is in LINK
   all-linked : (p : ℕ) → 1 ≤ p → p ≤ taskBlocks → children (s .tasks) p ≡ one (taskAt s p .place) InLink

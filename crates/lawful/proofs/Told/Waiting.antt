@@ -1,37 +1,30 @@
 -- Document 02, E6, of one call on a lawful state: a task that is in its waiting place before and after has kept its reading, and one that is in another place than before has the reading
--- that its place gets by the clock after the call. By `Dated`; where the rules hold, nobody comes back within a call to the place in which it waited. And how the clock goes on.
-use mathlib.Core.Bool.{Bool, true, false}
+-- that its place gets by the clock after the call. By `Dated`; where the rules hold, nobody comes back within a call to the place in which it waited.
+use mathlib.Core.Bool.{true}
 use mathlib.Core.Path.{_≡_, refl, sym, ap, _∙_}
 use mathlib.Core.Logic.{_≢_, inl, inr, ⊎-elim}
-use mathlib.Core.List.{List, [], _∷_}
-use Prim.Native.Nat.{ℕ, _+_, _%_, _≤_}
+use Prim.Native.Nat.{ℕ, _≤_}
 use native.Mathlib.Omega.{arith}
 use lib.Count.{trailingZeros}
-use lib.Dec.{eqb, leb}
 use lib.ListN.{List·getD-eq-default}
 use Rattle.words.proofs.Truth.{tested}
-use Rattle.words.specs.Words.{if_then_else_, each}
 use Rattle.words.specs.Counting.{bit}
 use Rattle.words.proofs.Counting.{one-eq}
 use Rattle.words.proofs.Places.{under-or-from}
 use Rattle.words.proofs.Free.{least-in}
 use Rattle.tables.specs.declared.Task.{Task}
 use Rattle.tables.specs.Blocks.{Free, Running, InCore, Ending, waitsIn, sinceIn, noTask, taskBlocks}
-use Rattle.tables.specs.State.{State, eventQueue, timeQueue, withClock, taskAt, queue, leaving}
+use Rattle.tables.specs.State.{State, eventQueue, timeQueue, taskAt}
 use Rattle.tables.proofs.Readings.{waits-within}
 use Rattle.calls.specs.declared.Call.{Call}
-use Rattle.calls.specs.Calls.{TIMER}
-use Rattle.meaning.specs.Ready.{madeReady, runsFirst, dispatched}
-use Rattle.meaning.specs.Services.{Effect, timely, timer, deeds, deedOf, effect}
-use Rattle.meaning.proofs.Deeds.{deed-at}
+use Rattle.meaning.specs.Ready.{dispatched}
+use Rattle.meaning.specs.Services.{effect}
 use Rattle.lawful.specs.Resting.{Lawful}
 use Rattle.lawful.proofs.Blocks.Shape.{rest-place}
 use Rattle.lawful.proofs.Blocks.Members.{member-event, member-time, member-place, runs-place}
-use Rattle.lawful.proofs.Ready.Cases.{by-dispatch}
 use Rattle.lawful.proofs.Each.Finish.{parent-links}
 use Rattle.lawful.proofs.Chained.Small.{Waiter, Comes, itself, event, time, parent, request}
 use Rattle.lawful.proofs.Chained.Dated.{Anew, dated}
-use Rattle.lawful.proofs.Told.Pages.{made-frame}
 
 -- ---- Where one comes from, whom a call puts into a place.
 module _ {s : State} (g : Lawful s) {y : ℕ} (some : 1 ≤ y) (low : y ≤ taskBlocks) where
@@ -84,33 +77,3 @@ module _ {s : State} (g : Lawful s) {y : ℕ} (some : 1 ≤ y) (low : y ≤ task
 
     pub enters-since : taskAt after y .place ≢ taskAt s y .place → taskAt after y .since ≡ sinceIn (after .clock) (taskAt after y .place)
     enters-since n = ⊎-elim (λ d. absurd (n (d .0))) (λ a. a .since) (dated s c y)
-
--- ---- The clock: of all calls the timer alone changes it, by 1.
-timely-clock : (k : ℕ) (s : State) → timely k s .clock ≡ s .clock
-unfolding timely
-timely-clock k s = go (leb (taskAt s k .time) (s .clock))
-  where
-    go : (b : Bool) → (if b then madeReady (leaving s timeQueue k) k else s) .clock ≡ s .clock
-    go true = ap (λ (x : State). x .clock) (made-frame (leaving s timeQueue k) k .others)
-    go false = refl
-
-times-clock : (l : List ℕ) (s : State) → each timely l s .clock ≡ s .clock
-unfolding each
-times-clock [] s = refl
-times-clock (k ∷ l) s = times-clock l (timely k s) ∙ timely-clock k s
-
-timer-clock : (s : State) (c : Call) → timer s c .state .clock ≡ s .clock + 1
-unfolding timer
-timer-clock s c = go (eqb ((s .clock + 1) % s .directory .every) 0)
-  where
-    go : (b : Bool) → (if b then each timely (queue s timeQueue) (withClock s (s .clock + 1)) else withClock s (s .clock + 1)) .clock ≡ s .clock + 1
-    go true = times-clock (queue s timeQueue) (withClock s (s .clock + 1))
-    go false = refl
-
-dispatched-clock : (s : State) → dispatched s .clock ≡ s .clock
-unfolding runsFirst
-dispatched-clock s = by-dispatch s (λ (u : State). u .clock ≡ s .clock) refl (λ z b. refl)
-
-pub ticks-on : (s : State) (c : Call) → c .code ≡ TIMER → dispatched (effect s c .state) .clock ≡ s .clock + 1
-unfolding deeds deedOf
-ticks-on s c e = dispatched-clock (effect s c .state) ∙ ap (λ (x : Effect). x .state .clock) (deed-at s c TIMER e) ∙ timer-clock s c
