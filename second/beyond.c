@@ -1,7 +1,7 @@
 /* Tests what no session can reach: the check's two values, writing, refusal 9,
-   the clock's end and the readings of waits there, and what a short SIGNAL and a
-   second load leave of the signalled events. Prints what fails; exit status 1 if
-   anything does. */
+   the clock's end and the readings of waits there, what a short SIGNAL and a
+   second load leave of the signalled events, and the rule of the grants in the
+   tables. Prints what fails; exit status 1 if anything does. */
 #include "executive.h"
 
 #include <stdio.h>
@@ -240,6 +240,40 @@ static void idle_readings(int *failed)
     }
 }
 
+/* Document 02, E8: each load sets its rule, a refused one leaves "all-zero
+   tables" all the same, and no call changes it. 9 where it is neither. */
+static void rule_of_grants(int *failed)
+{
+    struct executive executive;
+    struct executive zero;
+    struct directory directory = good_directory();
+    uint8_t bytes[IMAGE_LENGTH];
+    struct call start = {OPERATOR_START, 0, 1, 0, 0, 0};
+    struct call end = {END, 0, 0, 0, 0, 0};
+    memset(&zero, 0, sizeof zero);
+    image_put(&directory, bytes);
+    expect(failed, executive_load(&executive, bytes, 511).refusal == 1
+                       && memcmp(&executive, &zero, sizeof zero) == 0,
+           "a refused load: zero");
+    expect(failed, executive_load_lowest(&executive, bytes, 511).refusal == 1
+                       && memcmp(&executive, &zero, sizeof zero) == 0,
+           "a refused load of the old program: zero");
+    executive_load_lowest(&executive, bytes, IMAGE_LENGTH);
+    expect(failed, executive.holes == LOWEST_START, "the old program's rule");
+    expect(failed, answers(&executive, start, 0, 1, 1), "granted by it");
+    expect(failed, executive.holes == LOWEST_START, "it stays");
+    executive_load(&executive, bytes, IMAGE_LENGTH);
+    expect(failed, executive.holes == SMALLEST_HOLE, "E8's rule");
+    expect(failed, answers(&executive, start, 0, 1, 1), "granted by that");
+    expect(failed, executive.holes == SMALLEST_HOLE, "that stays");
+    executive.holes = SMALLEST_HOLE + 1;
+    expect(failed, answers(&executive, end, 9, 0, 0), "no such rule: 9");
+    executive.holes = UINT64_MAX;
+    expect(failed, answers(&executive, end, 9, 0, 0), "the highest value: 9");
+    executive.holes = LOWEST_START;
+    expect(failed, answers(&executive, end, 0, 1, 0), "either rule");
+}
+
 /* All of them. */
 int main(void)
 {
@@ -252,6 +286,7 @@ int main(void)
     signalled_events(&failed);
     late_readings(&failed);
     idle_readings(&failed);
+    rule_of_grants(&failed);
     printf("beyond: %d failed\n", failed);
     return failed != 0;
 }

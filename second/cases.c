@@ -19,18 +19,37 @@ static void differs(const char *of, const char *name, const char *what)
     fprintf(stderr, "cases: %s: %s: %s\n", of, name, what);
 }
 
-/* The tables made by hand are those that calls on the library lead to. */
-static void try_samples(void)
+/* The tables made by hand are those that calls on the library lead to. They are
+   the same by either rule of the grants, but for the rule. */
+static void try_samples(enum holes holes)
 {
     static const char *const names[] = {"loaded", "the sample", "the chain"};
     for (enum base base = LOADED; base <= CHAIN; base++) {
         struct khilzurgee_tables reached;
         struct khilzurgee_tables made = tables_of(base);
-        if (!tables_reached(&reached, base)) {
+        made.holes = holes;
+        if (!tables_reached(&reached, base, holes)) {
             differs("calls", names[base], "one is refused");
         } else if (memcmp(&made, &reached, sizeof made) != 0) {
             differs("calls", names[base], "they lead to other tables");
         }
+    }
+}
+
+/* A refused load, by either rule: "all-zero tables". */
+static void try_refused_loads(void)
+{
+    static const struct khilzurgee_tables zero;
+    const uint8_t image[IMAGE_LENGTH] = {0};
+    struct khilzurgee_tables tables = tables_of(SAMPLE);
+    struct khilzurgee_tables lowest = tables_of(SAMPLE);
+    if (khilzurgee_load(&tables, image, IMAGE_LENGTH).refusal != 2
+        || khilzurgee_load_lowest(&lowest, image, IMAGE_LENGTH).refusal != 2) {
+        differs("loads", "512 zero bytes", "they are not refused by 2");
+    }
+    if (memcmp(&tables, &zero, sizeof zero) != 0
+        || memcmp(&lowest, &zero, sizeof zero) != 0) {
+        differs("loads", "512 zero bytes", "they leave other tables than zero");
     }
 }
 
@@ -156,7 +175,9 @@ int main(int count, char **arguments)
         return 2;
     }
     unsigned long tables = strtoul(arguments[1], NULL, 10);
-    try_samples();
+    try_samples(SMALLEST_HOLE);
+    try_samples(LOWEST_START);
+    try_refused_loads();
     for (size_t i = 0; i < rule_cases_count; i++) {
         try_rule(&rule_cases[i]);
         try_enough(rule_cases[i].rule);

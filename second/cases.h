@@ -29,7 +29,7 @@ enum base {
 };
 
 /* One case of a table rule. */
-enum { EDITS_MOST = 18 };
+enum { EDITS_MOST = 20 };
 struct rule_case {
     const char *rule;  /* the rule that it is of */
     const char *found; /* the first rule that it breaks, in this program's
@@ -42,7 +42,7 @@ extern const struct rule_case rule_cases[];
 extern const size_t rule_cases_count;
 
 /* One case of a row of the refusals, or of none of them; or of the answers of
-   TEST EVENT; or of the clock readings of those who wait. */
+   TEST EVENT; or of the clock readings of those who wait; or of a grant. */
 enum { SEEN_MOST = 4 };
 struct refusal_case {
     int refusal;
@@ -67,8 +67,9 @@ void tables_edit(struct khilzurgee_tables *tables, const struct edit *edits,
                  size_t count);
 
 /* What the library's tables are after the calls that lead to these, from a
-   load of their directory: of LOADED, SAMPLE and CHAIN. 0 if a call of them is
-   refused. */
-int tables_reached(struct khilzurgee_tables *tables, enum base base);
+   load of their directory, by the rule of the grants: of LOADED, SAMPLE and
+   CHAIN. 0 if a call of them is refused. */
+int tables_reached(struct khilzurgee_tables *tables, enum base base,
+                   enum holes holes);
 
 #endif

@@ -3,6 +3,8 @@
 
 enum { NO_RUN = -1 };
 
+grant_witness *witness_of_grants;
+
 /* "module units above 0, none granted yet" */
 int still_needs_core(const struct executive *executive, int block)
 {
@@ -24,10 +26,8 @@ static int is_free_run(const struct executive *executive, int level,
 
 /* "the lowest start at which enough are free"; NO_RUN if "no free run is
    long enough" */
-static int lowest_start(const struct executive *executive, int block)
+static int lowest_start(const struct executive *executive, int level, int units)
 {
-    int level = task_level(executive, block);
-    int units = task_module(executive, block)->units;
     for (int start = 0; start + units <= UNITS; start++) {
         if (is_free_run(executive, level, start, units)) {
             return start;
@@ -36,11 +36,56 @@ static int lowest_start(const struct executive *executive, int block)
     return NO_RUN;
 }
 
-/* "it gets the units from the lowest start" */
+/* How many units are free from `start` on, up to a held one or the pool's
+   end? */
+static int free_from(const struct executive *executive, int level, int start)
+{
+    int unit = start;
+    while (unit < UNITS && executive->holder[level][unit] == 0) {
+        unit++;
+    }
+    return unit - start;
+}
+
+/* Document 02, E8: "the start of the shortest unbroken free run that is long
+   enough, the lowest of equals"; NO_RUN if none is. Goes over the units hole by
+   hole, and over the held unit behind each. */
+static int smallest_hole(const struct executive *executive, int level, int units)
+{
+    int found = NO_RUN;
+    int shortest = UNITS + 1;
+    int start = 0;
+    while (start < UNITS) {
+        int length = free_from(executive, level, start);
+        if (length >= units && length < shortest) {
+            found = start;
+            shortest = length;
+        }
+        start += length + 1;
+    }
+    return found;
+}
+
+/* Which start a grant takes, by the rule of the load; NO_RUN if "no free run is
+   long enough". "The rule for who waits is unchanged." */
+static int start_for(const struct executive *executive, int block)
+{
+    int level = task_level(executive, block);
+    int units = task_module(executive, block)->units;
+    if (executive->holes == LOWEST_START) {
+        return lowest_start(executive, level, units);
+    }
+    return smallest_hole(executive, level, units);
+}
+
+/* "it gets the units from" the start on */
 static void grant(struct executive *executive, int block, int start)
 {
     int level = task_level(executive, block);
     int units = task_module(executive, block)->units;
+    if (witness_of_grants != NULL) {
+        witness_of_grants(executive, block, start);
+    }
     for (int unit = start; unit < start + units; unit++) {
         executive->holder[level][unit] = (uint8_t)block;
     }
@@ -74,7 +119,7 @@ void make_ready(struct executive *executive, int block)
     struct queue *waiters = &executive->core_queue[level];
     forget_wait(&executive->task[block]);
     if (still_needs_core(executive, block)) {
-        int start = lowest_start(executive, block);
+        int start = start_for(executive, block);
         if (waiters->count > 0 || start == NO_RUN) {
             task_put(executive, block, WAITS_FOR_CORE);
             queue_join_end(waiters, block);
@@ -91,7 +136,7 @@ static void serve_core_queue(struct executive *executive, int level)
 {
     struct queue *waiters = &executive->core_queue[level];
     while (waiters->count > 0) {
-        int start = lowest_start(executive, waiters->block[0]);
+        int start = start_for(executive, waiters->block[0]);
         if (start == NO_RUN) {
             return;
         }

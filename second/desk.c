@@ -2,12 +2,17 @@
    writes a line for the load (refusal, M or 0, 0), then one per call; a short
    last call is 10; after a refused load it stops."
 
-   With --check it tests its own tables after every call.
+   With --lowest a grant takes document 01's lowest start, and not the smallest
+   hole of document 02's E8: "The desk keeps the old program".
+   With --check it tests its own tables after every call, and each grant.
    With --since the readings that the call has changed stand behind the three
    numbers of its line: document 02's E6 gives every task block "the clock
    reading at which it last entered any waiting queue".
-   With --codes each line ends with the code of the call too, for counting. */
+   With --codes each line ends with the code of the call too, and with a word for
+   each grant, for counting: "lowest" where it takes the lowest start at which
+   enough are free, else "higher". */
 #include "executive.h"
+#include "grants.h"
 #include "rules.h"
 
 #include <inttypes.h>
@@ -17,6 +22,7 @@
 
 /* What the arguments ask for. */
 struct wishes {
+    int lowest;
     int check;
     int since;
     int codes;
@@ -27,6 +33,37 @@ static void broken(unsigned long call, const char *words)
 {
     fprintf(stderr, "desk: BROKEN after call %lu: %s\n", call, words);
     abort();
+}
+
+/* The grants that were seen: how many of this call take the lowest start, and how
+   many a higher one; the words that one of any call breaks, NULL if none. */
+static struct {
+    int lowest;
+    int higher;
+    const char *broken;
+} seen;
+
+static void see_grant(const struct executive *executive, int block, int start)
+{
+    const char *words = grant_broken(executive, block, start);
+    if (words != NULL) {
+        seen.broken = words;
+    }
+    if (grant_is_lowest(executive, block, start)) {
+        seen.lowest++;
+    } else {
+        seen.higher++;
+    }
+}
+
+static void write_grants(void)
+{
+    for (int i = 0; i < seen.lowest; i++) {
+        printf(" lowest");
+    }
+    for (int i = 0; i < seen.higher; i++) {
+        printf(" higher");
+    }
 }
 
 /* Document 02, E6: the readings that a call has changed, in block order, each
@@ -52,6 +89,7 @@ static void write_line(const struct answer *answer, const struct wishes *wishes,
     }
     if (wishes->codes) {
         printf(" %s", code);
+        write_grants();
     }
     printf("\n");
     fflush(stdout);
@@ -70,14 +108,17 @@ static const char *code_name(const uint8_t *bytes, size_t length)
 }
 
 /* "each task newly dispatched is the first of the best level that is ready":
-   the call is acted again without its dispatch, to see who was ready. */
+   the call is acted again without its dispatch, to see who was ready. Its grants
+   were seen. */
 static void check_dispatch(const struct executive *before,
                            const struct executive *after, unsigned long number,
                            const uint8_t *bytes, size_t length)
 {
     struct executive acted = *before;
     int first = 0;
+    witness_of_grants = NULL;
     executive_act(&acted, bytes, length);
+    witness_of_grants = see_grant;
     for (int level = LEVELS; level >= 1; level--) {
         if (acted.ready[level].count > 0) {
             first = acted.ready[level].block[0];
@@ -134,9 +175,12 @@ static void check_call(const struct executive *before,
                        const uint8_t *bytes, size_t length,
                        const struct answer *answer)
 {
-    const char *words = rules_broken(after);
+    const char *words = seen.broken != NULL ? seen.broken : rules_broken(after);
     if (words != NULL) {
         broken(number, words);
+    }
+    if (after->holes != before->holes) {
+        broken(number, "no call changes the rule of the grants");
     }
     if (answer->refusal != 0) {
         if (memcmp(before, after, sizeof *before) != 0) {
@@ -165,6 +209,8 @@ static void take_calls(struct executive *executive, const struct wishes *wishes)
     while (length > 0) {
         number++;
         memcpy(&before, executive, sizeof before);
+        seen.lowest = 0;
+        seen.higher = 0;
         struct answer answer = executive_step(executive, bytes, length);
         if (wishes->check) {
             check_call(&before, executive, number, bytes, length, &answer);
@@ -175,8 +221,10 @@ static void take_calls(struct executive *executive, const struct wishes *wishes)
     }
 }
 
-/* "An accepted image written back gives the same 512 bytes". */
-static void check_load(const struct executive *executive, const uint8_t *image)
+/* "An accepted image written back gives the same 512 bytes". The load sets the
+   rule of the grants. */
+static void check_load(const struct executive *executive, const uint8_t *image,
+                       const struct wishes *wishes)
 {
     uint8_t written[IMAGE_LENGTH];
     const char *words = rules_broken(executive);
@@ -187,13 +235,18 @@ static void check_load(const struct executive *executive, const uint8_t *image)
         || memcmp(written, image, IMAGE_LENGTH) != 0) {
         broken(0, "an accepted image written back gives the same bytes");
     }
+    if (executive->holes != (wishes->lowest ? LOWEST_START : SMALLEST_HOLE)) {
+        broken(0, "the load sets the rule of the grants");
+    }
 }
 
 /* The arguments; 0 if one isn't known. */
 static int read_wishes(struct wishes *wishes, int count, char **arguments)
 {
     for (int i = 1; i < count; i++) {
-        if (strcmp(arguments[i], "--check") == 0) {
+        if (strcmp(arguments[i], "--lowest") == 0) {
+            wishes->lowest = 1;
+        } else if (strcmp(arguments[i], "--check") == 0) {
             wishes->check = 1;
         } else if (strcmp(arguments[i], "--since") == 0) {
             wishes->since = 1;
@@ -210,19 +263,23 @@ static int read_wishes(struct wishes *wishes, int count, char **arguments)
 int main(int count, char **arguments)
 {
     struct executive executive;
-    struct wishes wishes = {0, 0, 0};
+    struct wishes wishes = {0, 0, 0, 0};
     uint8_t image[IMAGE_LENGTH];
     if (!read_wishes(&wishes, count, arguments)) {
-        fprintf(stderr, "usage: desk [--check] [--since] [--codes]\n");
+        fprintf(stderr,
+                "usage: desk [--lowest] [--check] [--since] [--codes]\n");
         return 2;
     }
     size_t length = fread(image, 1, IMAGE_LENGTH, stdin);
-    struct answer answer = executive_load(&executive, image, length);
+    struct answer answer = wishes.lowest
+        ? executive_load_lowest(&executive, image, length)
+        : executive_load(&executive, image, length);
     if (wishes.check && answer.refusal == 0) {
-        check_load(&executive, image);
+        check_load(&executive, image, &wishes);
     }
     write_line(&answer, &wishes, &executive, &executive, "load");
     if (answer.refusal == 0) {
+        witness_of_grants = wishes.check || wishes.codes ? see_grant : NULL;
         take_calls(&executive, &wishes);
     }
     if (ferror(stdout)) {

@@ -47,6 +47,7 @@ static const struct field numbers[] = {
     FIELD(khilzurgee_tables, pools[1]),
     FIELD(khilzurgee_tables, pools[2]),
     FIELD(khilzurgee_tables, pools[3]),
+    FIELD(khilzurgee_tables, holes),
 };
 static const struct field of_entry[] = {
     FIELD(khilzurgee_entry, level),
@@ -269,15 +270,31 @@ static uint32_t some_reading(const struct executive *executive,
     return executive->clock - 1 + random_below(random, 3);
 }
 
-/* One of the other things that a block says; or an event goes on or off, or
-   becomes one that was signalled or that never was. */
+/* An event goes on or off, or becomes one that was signalled or that never was;
+   or the grants go by another rule, or by one that there is not. */
+static void change_no_block(struct executive *executive, struct random *random)
+{
+    switch (random_below(random, 3)) {
+    case 0:
+        executive->on ^= some_event(executive, random);
+        break;
+    case 1:
+        executive->signalled ^= some_event(executive, random);
+        break;
+    default:
+        executive->holes = random_below(random, 3);
+        break;
+    }
+}
+
+/* One of the other things that a block says, or something of no block. */
 static void change_block(struct executive *executive, struct random *random)
 {
     unsigned block = 1 + random_below(random, TASKS);
     struct task *task = &executive->task[block];
     unsigned number = 1 + random_below(random, REQUESTS);
     unsigned event = random_below(random, EVENTS);
-    switch (random_below(random, 10)) {
+    switch (random_below(random, 11)) {
     case 0:
         task->parent = (uint8_t)random_below(random, TASKS + 1);
         break;
@@ -302,11 +319,8 @@ static void change_block(struct executive *executive, struct random *random)
     case 7:
         executive->request[number].owner = (uint8_t)random_below(random, TASKS + 1);
         break;
-    case 8:
-        executive->on ^= some_event(executive, random);
-        break;
     default:
-        executive->signalled ^= some_event(executive, random);
+        change_no_block(executive, random);
         break;
     }
 }

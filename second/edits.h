@@ -11,7 +11,8 @@ void edit_field(struct khilzurgee_tables *tables, struct random *random);
 /* Something of this program's tables changes as a whole, so that the pointers
    and sets that the library keeps of it agree: a block changes its place or
    its queue, a run, a condition, a clock reading, a parent or an owner becomes
-   another, an event goes on or off or changes to or from never signalled. */
+   another, an event goes on or off or changes to or from never signalled, the
+   grants have another rule. */
 void edit_meaning(struct executive *executive, struct random *random);
 
 #endif

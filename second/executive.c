@@ -7,14 +7,31 @@
    signalled "since the load" (document 02, E1). A refused load leaves
    "all-zero tables". The answer is the desk's line for the load: "(refusal, M
    or 0, 0)". */
-struct answer executive_load(struct executive *executive,
-                             const uint8_t *bytes, size_t length)
+static struct answer load(struct executive *executive, const uint8_t *bytes,
+                          size_t length, enum holes holes)
 {
     struct answer answer = {0, 0, 0};
     memset(executive, 0, sizeof *executive);
     answer.refusal = image_load(&executive->directory, bytes, length);
     answer.result = executive->directory.modules;
+    if (answer.refusal == 0) {
+        executive->holes = holes;
+    }
     return answer;
+}
+
+/* Document 02, E8: "Smallest hole first." */
+struct answer executive_load(struct executive *executive,
+                             const uint8_t *bytes, size_t length)
+{
+    return load(executive, bytes, length, SMALLEST_HOLE);
+}
+
+/* Document 02, E8: "the old program for recordings made before this". */
+struct answer executive_load_lowest(struct executive *executive,
+                                    const uint8_t *bytes, size_t length)
+{
+    return load(executive, bytes, length, LOWEST_START);
 }
 
 /* All of a call but its last act, the dispatch. "A refused call has result 0,

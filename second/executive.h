@@ -46,6 +46,14 @@ enum core {
     CORE_GIVEN_BACK
 };
 
+/* Which start a grant takes: document 01's "lowest start at which enough are
+   free", or document 02's "start of the shortest unbroken free run that is long
+   enough" (E8). */
+enum holes {
+    LOWEST_START,
+    SMALLEST_HOLE
+};
+
 /* A task block. Count and set belong to the event queue, time to the time
    queue, awaited to CHECK. `since` is document 02's "clock reading at which it
    last entered any waiting queue" (E6); task_put alone sets it, and the
@@ -73,7 +81,8 @@ struct request {
 
 /* All tables. Blocks count from 1 and levels from 1; index 0 stays zero.
    `signalled` are the events "signalled on or off since the load" (document 02,
-   E1). `holder` names for each unit of a level the task that holds it. */
+   E1). `holder` names for each unit of a level the task that holds it. `holes`
+   is the rule of the grants; the load sets it, and no call changes it. */
 struct executive {
     struct directory directory;
     uint64_t on;
@@ -89,6 +98,7 @@ struct executive {
     struct queue event_queue;
     struct queue time_queue;
     struct queue channel_queue;
+    uint64_t holes;
 };
 
 /* "An answer has three numbers: refusal (0 if accepted), result, running
@@ -111,6 +121,8 @@ extern const struct code code_table[CODES];
 /* executive.c */
 struct answer executive_load(struct executive *executive,
                              const uint8_t *bytes, size_t length);
+struct answer executive_load_lowest(struct executive *executive,
+                                    const uint8_t *bytes, size_t length);
 struct answer executive_act(struct executive *executive,
                             const uint8_t *bytes, size_t length);
 void executive_dispatch(struct executive *executive);
@@ -127,7 +139,11 @@ void task_put(struct executive *executive, int block, int place);
 void task_stop_running(struct executive *executive, int place);
 int best_ready_level(const struct executive *executive);
 
-/* core.c */
+/* core.c. A witness sees each grant before it is made: the tables as they are,
+   the block and the start. NULL if there is none. */
+typedef void grant_witness(const struct executive *executive, int block,
+                           int start);
+extern grant_witness *witness_of_grants;
 int still_needs_core(const struct executive *executive, int block);
 void make_ready(struct executive *executive, int block);
 void free_core(struct executive *executive, int block);

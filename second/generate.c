@@ -1,6 +1,8 @@
 /* Writes the text of a session for a profile and a seed:
-   generate PROFILE SEED CALLS. The tables of the second program itself steer
-   it, so that full tables, long chains and pending requests are reached. */
+   generate [--lowest] PROFILE SEED CALLS. The tables of the second program
+   itself steer it, so that full tables, long chains and pending requests are
+   reached. With --lowest they are those of the old program (document 02, E8),
+   and the text is to the byte what it was before E8. */
 #include "moves.h"
 
 #include <inttypes.h>
@@ -11,6 +13,7 @@
 /* One session in the making. */
 struct session {
     const struct profile *profile;
+    int lowest;
     struct random random;
     struct executive executive;
     int filling;
@@ -30,6 +33,9 @@ static void make_directory(struct session *session, struct directory *directory)
     for (int i = 0; i < directory->modules; i++) {
         struct module *module = &directory->module[i];
         module->level = (uint8_t)(1 + random_below(random, LEVELS));
+        if (profile->only_level != 0) {
+            module->level = profile->only_level;
+        }
         module->units = profile->units[random_below(random, UNITS_CHOICES)];
         module->flags = (uint8_t)random_below(random, 2);
         module->entry = (uint32_t)random_next(random);
@@ -127,7 +133,11 @@ static int make_image(struct session *session)
     unsigned second;
     make_directory(session, &directory);
     image_put(&directory, bytes);
-    executive_load(&session->executive, bytes, IMAGE_LENGTH);
+    if (session->lowest) {
+        executive_load_lowest(&session->executive, bytes, IMAGE_LENGTH);
+    } else {
+        executive_load(&session->executive, bytes, IMAGE_LENGTH);
+    }
     choose_damage(session, &directory, &first, &second);
     printf("image modules=%u every=%u events=0x%" PRIx64 "\n",
            directory.modules, directory.every, directory.events);
@@ -277,20 +287,25 @@ static int is_number(const char *text)
     return *text != '\0' && text[strspn(text, "0123456789")] == '\0';
 }
 
-/* generate PROFILE SEED CALLS */
+/* generate [--lowest] PROFILE SEED CALLS. The first line says by which rule it
+   was steered where that is not the one of before E8. */
 int main(int count, char **arguments)
 {
     struct session session;
     memset(&session, 0, sizeof session);
-    if (count == 4 && is_number(arguments[2]) && is_number(arguments[3])) {
+    session.lowest = count > 1 && strcmp(arguments[1], "--lowest") == 0;
+    arguments += session.lowest;
+    if (count - session.lowest == 4 && is_number(arguments[2])
+        && is_number(arguments[3])) {
         session.profile = profile_find(arguments[1]);
     }
     if (session.profile == NULL) {
-        fprintf(stderr, "usage: generate PROFILE SEED CALLS\n");
+        fprintf(stderr, "usage: generate [--lowest] PROFILE SEED CALLS\n");
         return 1;
     }
     random_seed(&session.random, strtoull(arguments[2], NULL, 10));
-    printf("# generate %s %s %s\n", arguments[1], arguments[2], arguments[3]);
+    printf("# generate %s %s %s%s\n", arguments[1], arguments[2], arguments[3],
+           session.lowest ? "" : " by the smallest hole");
     if (make_image(&session)) {
         make_calls(&session, strtoul(arguments[3], NULL, 10));
         make_short_call(&session.random);

@@ -31,7 +31,8 @@ static void count_words(const char *words)
 }
 
 /* One table, edited by chance, and one call on it. What this program reads of
-   the table as it was is given, too. */
+   the table as it was is given, too. Every second one has the other rule of the
+   grants. */
 static void judge(const struct khilzurgee_tables *tables,
                   const struct executive *read, const uint8_t *bytes,
                   unsigned long call, struct random *random)
@@ -40,6 +41,10 @@ static void judge(const struct khilzurgee_tables *tables,
     struct executive executive = *read;
     unsigned edits = 1 + random_below(random, 2);
     int meaning = random_one_in(random, 2);
+    if (random_one_in(random, 2)) {
+        edited.holes = edited.holes == LOWEST_START ? SMALLEST_HOLE : LOWEST_START;
+        executive.holes = edited.holes;
+    }
     for (unsigned i = 0; i < edits; i++) {
         if (meaning) {
             edit_meaning(&executive, random);

@@ -38,6 +38,7 @@ struct profile {
     uint8_t units[UNITS_CHOICES];
     uint8_t every[EVERY_CHOICES];
     uint64_t events;
+    uint8_t only_level; /* 0 if modules are of any level */
     int bad_images;
     unsigned fill[MOVES];
     unsigned drain[MOVES];

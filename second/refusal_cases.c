@@ -1,7 +1,7 @@
 /* Calls on either side of the line of each row of document 01's table of
    refusals and of document 02's 25, and calls to which two rows apply; the
    answers of TEST EVENT, and what signals an event; the clock readings that
-   calls leave. The numbers were found by hand, from the papers. */
+   calls leave; the starts that grants take. The numbers were found by hand, from the papers. */
 #include "cases.h"
 
 /* A row: the refusal, 0 if accepted; the tables; the call's code, kind, number,
@@ -90,6 +90,53 @@
 #define GAVE_CORE_BACK                                                     \
     SET(directory.entries[1].units, 4), SET(tasks[1].program, 1),          \
     SET(tasks[1].core, CORE_GIVEN_BACK)
+
+/* Two tasks hold core of level 2: 1, which runs, 2 units, and 2 46 units. New tasks
+   are of module 0. */
+#define TWO_RUNS(first, second, granted)                                   \
+    SET(directory.entries[1].units, 2), SET(tasks[1].program, 1),          \
+    SET(tasks[1].core, CORE_HELD), SET(tasks[1].start, first),             \
+    SET(directory.entries[2].units, 46), SET(tasks[2].program, 2),         \
+    SET(tasks[2].core, CORE_HELD), SET(tasks[2].start, second),            \
+    SET(pools[2], granted)
+
+/* They have 10-11 and 18-63: holes of 10 at 0 and of 6 at 12. They have 8-9 and
+   18-63: two holes of 8, at 0 and at 10. They have 10-11 and 12-57: holes of 10 at
+   0 and of 6 at 58. */
+#define HOLES_10_6 TWO_RUNS(10, 18, UINT64_C(0xfffffffffffc0c00))
+#define HOLES_8_8 TWO_RUNS(8, 18, UINT64_C(0xfffffffffffc0300))
+#define HOLES_10_6_AT_63 TWO_RUNS(10, 12, UINT64_C(0x03fffffffffffc00))
+
+/* SCHEDULE of a task of so many units by one of the rules: it gets them from
+   `begin` on, or it waits. The pool afterwards. */
+#define GRANTS(name, by, need, begin, granted, ...)                        \
+    {0, name, USUAL, {SCHEDULE, AT_ONCE, 0, 0, 0, 0},                      \
+     {SET(holes, by), SET(directory.entries[0].units, need), __VA_ARGS__}, \
+     CALL_LENGTH, {SET(tasks[3].core, CORE_HELD), SET(tasks[3].start, begin), \
+                   SET(pools[2], granted), SET(holes, by)}, 3}
+#define GRANTS_NOT(name, by, need, granted, ...)                           \
+    {0, name, USUAL, {SCHEDULE, AT_ONCE, 0, 0, 0, 0},                      \
+     {SET(holes, by), SET(directory.entries[0].units, need), __VA_ARGS__}, \
+     CALL_LENGTH, {SET(tasks[3].place, WAITS_FOR_CORE),                    \
+                   SET(tasks[3].core, CORE_NONE_YET),                      \
+                   SET(pools[2], granted), SET(holes, by)}, 3}
+
+/* FREEMAIN by one of the rules: task 1 gives 0 to 29 back, 2 has 30 to 59. The
+   tasks 3, of 20 units, and 4, of 4 units, wait for core. 3 gets 0 to 19, and 4 its
+   units from `begin` on. */
+#define SERVES(name, by, begin, granted)                                   \
+    {0, name, USUAL, {FREEMAIN, 0, 0, 0, 0, 0},                            \
+     {SET(holes, by), ANOTHERS, SET(directory.entries[0].units, 20),       \
+      SET(directory.entries[1].units, 30), SET(directory.entries[2].units, 4), \
+      SET(tasks[1].program, 1), SET(tasks[1].core, CORE_HELD),             \
+      SET(tasks[2].program, 1), SET(tasks[2].core, CORE_HELD),             \
+      SET(tasks[2].start, 30), SET(tasks[3].place, WAITS_FOR_CORE),        \
+      SET(tasks[4].place, WAITS_FOR_CORE), SET(tasks[4].program, 2),       \
+      SET(threads.first[5], 3), SET(threads.fwd[3], 4),                    \
+      SET(threads.back[4], 3), SET(threads.last[5], 4),                    \
+      SET(free_tasks, 0x1ffffe0), SET(pools[2], UINT64_C(0x0fffffffffffffff))}, \
+     CALL_LENGTH, {SET(tasks[3].start, 0), SET(tasks[4].start, begin),     \
+                   SET(pools[2], granted), SET(holes, by)}, 1}
 
 /* The request on the channel, 1, is of task 2; all requests are; task 1's
    request 3 is queued behind it. */
@@ -387,6 +434,47 @@ const struct refusal_case refusal_cases[] = {
     MOVES("start of 5: core of level 3", 19, WAITS_FOR_CORE, 5, OPERATOR_START, 5, 0, NOTHING),
     MOVES("start of 2: who waits there", 3, WAITS_FOR_CORE, 2, OPERATOR_START, 2, 0, NOTHING),
     MOVES("DISPATCH CHECK: 9 stays in LINK", 9, IN_LINK, 3, DISPATCH_CHECK, 0, 0, NOTHING),
+
+    /* Document 02's E8: "the start of the shortest unbroken free run that is long
+       enough, the lowest of equals", or document 01's lowest start. */
+    GRANTS("1 unit, smallest hole", SMALLEST_HOLE, 1, 12,
+           UINT64_C(0xfffffffffffc1c00), HOLES_10_6),
+    GRANTS("1 unit, lowest start", LOWEST_START, 1, 0,
+           UINT64_C(0xfffffffffffc0c01), HOLES_10_6),
+    GRANTS("5 units, smallest hole", SMALLEST_HOLE, 5, 12,
+           UINT64_C(0xfffffffffffdfc00), HOLES_10_6),
+    GRANTS("5 units, lowest start", LOWEST_START, 5, 0,
+           UINT64_C(0xfffffffffffc0c1f), HOLES_10_6),
+    GRANTS("6 units, smallest hole", SMALLEST_HOLE, 6, 12,
+           UINT64_C(0xfffffffffffffc00), HOLES_10_6),
+    GRANTS("6 units, lowest start", LOWEST_START, 6, 0,
+           UINT64_C(0xfffffffffffc0c3f), HOLES_10_6),
+    GRANTS("7 units, smallest hole", SMALLEST_HOLE, 7, 0,
+           UINT64_C(0xfffffffffffc0c7f), HOLES_10_6),
+    GRANTS("10 units, smallest hole", SMALLEST_HOLE, 10, 0,
+           UINT64_C(0xfffffffffffc0fff), HOLES_10_6),
+    GRANTS("10 units, lowest start", LOWEST_START, 10, 0,
+           UINT64_C(0xfffffffffffc0fff), HOLES_10_6),
+    GRANTS_NOT("11 units, smallest hole", SMALLEST_HOLE, 11,
+               UINT64_C(0xfffffffffffc0c00), HOLES_10_6),
+    GRANTS_NOT("11 units, lowest start", LOWEST_START, 11,
+               UINT64_C(0xfffffffffffc0c00), HOLES_10_6),
+    GRANTS("5 units, lowest of equals", SMALLEST_HOLE, 5, 0,
+           UINT64_C(0xfffffffffffc031f), HOLES_8_8),
+    GRANTS("8 units, lowest of equals", SMALLEST_HOLE, 8, 0,
+           UINT64_C(0xfffffffffffc03ff), HOLES_8_8),
+    GRANTS_NOT("9 units, two holes of 8", SMALLEST_HOLE, 9,
+               UINT64_C(0xfffffffffffc0300), HOLES_8_8),
+    GRANTS("5 units, the pool's end", SMALLEST_HOLE, 5, 58,
+           UINT64_C(0x7ffffffffffffc00), HOLES_10_6_AT_63),
+    GRANTS("6 units, the pool's end", SMALLEST_HOLE, 6, 58,
+           UINT64_C(0xfffffffffffffc00), HOLES_10_6_AT_63),
+    GRANTS("7 units, the pool's end", SMALLEST_HOLE, 7, 0,
+           UINT64_C(0x03fffffffffffc7f), HOLES_10_6_AT_63),
+    SERVES("served by the smallest hole", SMALLEST_HOLE, 60,
+           UINT64_C(0xffffffffc00fffff)),
+    SERVES("served by the lowest start", LOWEST_START, 20,
+           UINT64_C(0x0fffffffc0ffffff)),
 
     /* Where the fields of a call go; a set that is read and not used. */
     NEW_TASK("SCHEDULE 1 on 1 of event 0", 1, 1, 0x1, 0, SCHEDULE, 1, 1, 1, 0, 0x1),

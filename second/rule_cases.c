@@ -156,6 +156,24 @@ const struct rule_case rule_cases[] = {
     KEEPS(fields_in_range, "a run ends with unit 63", SAMPLE,
           RUN(12, 60, 3, UINT64_C(0xf00000000000000f))),
 
+    /* Document 02's E8: the rule of the grants is 0 or 1. 256 and 4,294,967,297 end
+       in the bits of these. */
+    BREAKS(fields_in_range, "holes 2", SAMPLE, SET(holes, 2)),
+    BREAKS(fields_in_range, "holes 3", SAMPLE, SET(holes, 3)),
+    BREAKS(fields_in_range, "holes 256", SAMPLE, SET(holes, 256)),
+    BREAKS(fields_in_range, "holes 4,294,967,297", SAMPLE,
+           SET(holes, UINT64_C(0x100000001))),
+    BREAKS(fields_in_range, "holes, the highest bit", SAMPLE,
+           SET(holes, UINT64_C(0x8000000000000000))),
+    BREAKS(fields_in_range, "holes, the highest value", SAMPLE, SET(holes, UINT64_MAX)),
+    BREAKS(fields_in_range, "holes 2, just loaded", LOADED, SET(holes, 2)),
+    BREAKS(fields_in_range, "holes 2, in the chain", CHAIN, SET(holes, 2)),
+    KEEPS(fields_in_range, "holes 0", SAMPLE, SET(holes, 0)),
+    KEEPS(fields_in_range, "holes 1", SAMPLE, SET(holes, 1)),
+    KEEPS(fields_in_range, "holes 0, just loaded", LOADED, SET(holes, 0)),
+    KEEPS(fields_in_range, "holes 1, just loaded", LOADED, SET(holes, 1)),
+    KEEPS(fields_in_range, "holes 0, in the chain", CHAIN, SET(holes, 0)),
+
     /* The events 0 to 7 are defined, 1 is on, and 1 and 2 have been signalled; 1,
        2 and 3 are waited for. */
     BREAKS(events_on_defined, "8 is on", SAMPLE, SET(on, 258)),

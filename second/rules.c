@@ -85,6 +85,7 @@ static int fields_in_range(const struct executive *executive)
         }
     }
     return executive->running <= TASKS && executive->channel <= REQUESTS
+        && executive->holes <= SMALLEST_HOLE
         && queues_in_range(executive) && tasks_in_range(executive)
         && requests_in_range(executive);
 }

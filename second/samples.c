@@ -15,6 +15,7 @@ static const struct khilzurgee_tables loaded = {
     .directory = EIGHT_MODULES,
     .free_tasks = 0x1fffffe,
     .free_requests = 0x1fffe,
+    .holes = SMALLEST_HOLE,
 };
 
 /* A block in every place. The event queue is 5, 6; ready are 15, 16 and 2 and
@@ -69,6 +70,7 @@ static const struct khilzurgee_tables sample = {
         .first = {5, 15, 2, 12, 17, 3, 18, 7, 28},
         .last = {6, 16, 2, 12, 17, 4, 18, 8, 26},
     },
+    .holes = SMALLEST_HOLE,
 };
 
 /* The calls that lead to the sample. */
@@ -135,6 +137,7 @@ static void make_standing(struct khilzurgee_tables *tables, uint8_t tasks,
 {
     struct khilzurgee_threads *threads = &tables->threads;
     memset(tables, 0, sizeof *tables);
+    tables->holes = SMALLEST_HOLE;
     tables->directory.modules = 3;
     tables->directory.every = 2;
     tables->directory.defined = UINT64_C(0x8000000000000003);
@@ -267,15 +270,20 @@ static int chain_reached(struct khilzurgee_tables *tables)
     return 1;
 }
 
-int tables_reached(struct khilzurgee_tables *tables, enum base base)
+int tables_reached(struct khilzurgee_tables *tables, enum base base,
+                   enum holes holes)
 {
+    struct khilzurgee_line line;
     struct executive executive;
     uint8_t image[IMAGE_LENGTH];
     if (tables_read(&executive, &loaded) != NULL) {
         return 0;
     }
     image_put(&executive.directory, image);
-    if (khilzurgee_load(tables, image, IMAGE_LENGTH).refusal != 0) {
+    line = holes == SMALLEST_HOLE
+        ? khilzurgee_load(tables, image, IMAGE_LENGTH)
+        : khilzurgee_load_lowest(tables, image, IMAGE_LENGTH);
+    if (line.refusal != 0) {
         return 0;
     }
     return base == SAMPLE ? sample_reached(tables)

@@ -204,6 +204,7 @@ const char *tables_read(struct executive *executive,
     executive->clock = tables->clock;
     executive->running = tables->running;
     executive->channel = tables->channel;
+    executive->holes = tables->holes;
     for (int number = 1; number <= REQUESTS; number++) {
         request_read(&executive->request[number], &tables->requests[number]);
     }
@@ -313,6 +314,7 @@ void tables_write(struct khilzurgee_tables *tables,
     tables->clock = executive->clock;
     tables->running = executive->running;
     tables->channel = executive->channel;
+    tables->holes = executive->holes;
     pools_write(tables, executive);
     for (int block = 1; block <= TASKS; block++) {
         task_write(&tables->tasks[block], executive, block);
