@@ -1,8 +1,8 @@
 /* How much stack the exported functions take: each is called on a stack that
    was filled with one byte before, and what is not that byte afterwards was
    used. The calls are a program check that aborts 24 tasks, each linked to by
-   the one before, and those of a working day. It fails where a function takes
-   more than LIMIT bytes, so that a growth is noticed. */
+   the one before, and those of a working day, after either load. It fails where
+   a function takes more than LIMIT bytes, so that a growth is noticed. */
 #define _XOPEN_SOURCE 600
 #include <stdio.h>
 #include <stdlib.h>
@@ -36,6 +36,11 @@ static void check(void)
 static void load(void)
 {
     answer = khilzurgee_load(&tables, image, IMAGE_LENGTH);
+}
+
+static void load_lowest(void)
+{
+    answer = khilzurgee_load_lowest(&tables, image, IMAGE_LENGTH);
 }
 
 static void advance(void)
@@ -81,25 +86,39 @@ static size_t called(uint8_t code, uint8_t number)
     return used;
 }
 
-int main(void)
+static size_t larger(size_t a, size_t b)
+{
+    return a > b ? a : b;
+}
+
+/* What a call of a working day takes at most, after this load. */
+static size_t most_after(void (*by)(void))
 {
     static struct working day;
-    size_t none = used_by(nothing), most = 0;
+    size_t most = 0;
+    by();
+    working_begin(&day);
+    for (int i = 0; i < DAY; i++) {
+        working_next(&day, call);
+        most = larger(most, used_by(advance));
+    }
+    return most;
+}
+
+int main(void)
+{
+    size_t none = used_by(nothing);
     working_image(image);
     size_t checking = used_by(check) - none;
-    size_t loading = used_by(load) - none;
+    size_t by_lowest = used_by(load_lowest);
+    size_t loading = larger(by_lowest, used_by(load)) - none;
     called(OPERATOR_START, NO_UNITS);
     for (int i = 1; i < TASKS_IN_ALL; i++) {
         called(LINK, NO_UNITS);
     }
     size_t abort = called(PROGRAM_CHECK, 0) - none;
-    load();
-    working_begin(&day);
-    for (int i = 0; i < DAY; i++) {
-        working_next(&day, call);
-        size_t used = used_by(advance) - none;
-        most = used > most ? used : most;
-    }
+    size_t most = most_after(load_lowest);
+    most = larger(most, most_after(load)) - none;
     printf("stack, in bytes: the image check %zu, a load %zu, the program check that aborts %d tasks %zu, a call of a working day up to %zu\n", checking,
            loading, TASKS_IN_ALL, abort, most);
     if (checking > LIMIT || loading > LIMIT || abort > LIMIT || most > LIMIT) {

@@ -1,5 +1,5 @@
 /* The executive for programs in C and C++: the image check, a block's check,
-   the load and one call, on tables that the caller owns.
+   two loads and one call, on tables that the caller owns.
 
    A phase image is one block of 512 bytes, numbers little-endian:
 
@@ -16,13 +16,13 @@
                   (i+1) times byte i, i from 0 to 509
 
    A station links target/staticlib/libexecutive.a, which
-   'rt staticlib executive' writes; it has all four functions. A program that
+   'rt staticlib executive' writes; it has all five functions. A program that
    needs the two checks alone, as the editor, links the small
    target/staticlib/libimage.a, which 'rt staticlib image' writes. Link one of
    the two and not both: each has the two checks. Both are for x86-64 Linux
    and need nothing but the C library.
 
-   The stack: a call was measured to take up to 32,536 bytes of it, a load
+   The stack: a call was measured to take up to 32,840 bytes of it, a load
    2,184 and the image check 920. 'bench/stack' measures it again, and fails
    where a function takes more than 40 KiB. */
 #ifndef KHILZURGEE_H
@@ -87,9 +87,9 @@ uint16_t khilzurgee_block_check(const uint8_t *block, size_t length);
 
    One set of tables is the whole state of an executive. A caller owns them;
    nothing is kept anywhere else. They are declared so that a station can look
-   into them; only the two functions below should change them.
+   into them; only the three functions below should change them.
 
-   They are 1,136 bytes, and every byte is a field's: no pointer, and no byte
+   They are 1,144 bytes, and every byte is a field's: no pointer, and no byte
    between two fields or behind the last. So they can be copied, stored and
    compared as bytes: equal tables are equal bytes (memcmp). The fields have to
    be aligned to 8, as the compiler aligns every object of this type. Bytes
@@ -99,18 +99,19 @@ uint16_t khilzurgee_block_check(const uint8_t *block, size_t length);
 
    Stored tables are the bytes of this struct, on a little-endian machine. Keep
    KHILZURGEE_TABLES_VERSION beside them, and read back none of another version:
-   it changes with the layout. The length does not tell versions apart: tables of
-   version 2 have 1,136 bytes too. Nothing else need be checked, for the tables
-   may hold anything.
+   it changes with the layout. Tables of version 3, which have 1,136 bytes, do
+   not say by which rule their grants go. The length does not tell versions apart:
+   tables of version 2 have 1,136 bytes too. Nothing else need be checked, for the
+   tables may hold anything.
 
    Block 0 names no block, level 0 no level: slot 0 of 'tasks', 'requests' and
    'pools' is not used, and is zero. */
 
 /* The form of stored tables. */
-#define KHILZURGEE_TABLES_VERSION 3
+#define KHILZURGEE_TABLES_VERSION 4
 
 enum {
-    KHILZURGEE_TABLES_LENGTH = 1136,
+    KHILZURGEE_TABLES_LENGTH = 1144,
     KHILZURGEE_CALL_LENGTH = 16,
     KHILZURGEE_MODULES = 32,
     KHILZURGEE_TASKS = 24,
@@ -185,6 +186,18 @@ struct khilzurgee_threads {
     uint8_t last[KHILZURGEE_QUEUES];
 };
 
+/* Which start a grant of core units takes, in the pool of the task's level. The
+   load says it, and no call changes it. A hole is a whole free run, between used
+   units or the pool's ends. The rule for who waits is the same by both: behind
+   others, or where no free run is long enough. */
+enum khilzurgee_holes {
+    KHILZURGEE_LOWEST_START = 0, /* the lowest start at which enough are free:
+                                    document 01's rule, khilzurgee_load_lowest */
+    KHILZURGEE_SMALLEST_HOLE = 1 /* the start of the shortest hole that is long
+                                    enough, the lowest of equals: document 02's
+                                    rule, khilzurgee_load */
+};
+
 struct khilzurgee_tables {
     struct khilzurgee_directory directory;
     uint64_t on;        /* the events that are on; each was signalled */
@@ -199,6 +212,7 @@ struct khilzurgee_tables {
     uint8_t running; /* the running task, 0 if idle */
     uint8_t channel; /* the request on the channel, 0 if none */
     struct khilzurgee_threads threads;
+    uint64_t holes; /* one of enum khilzurgee_holes */
 };
 
 /* Why a call is refused: the first number of its answer. They stand in the
@@ -321,7 +335,8 @@ KHILZURGEE_NEXT(khilzurgee_tables, free_requests, requests, 932);
 KHILZURGEE_NEXT(khilzurgee_tables, requests, running, 1034);
 KHILZURGEE_NEXT(khilzurgee_tables, running, channel, 1035);
 KHILZURGEE_NEXT(khilzurgee_tables, channel, threads, 1036);
-KHILZURGEE_LAST(khilzurgee_tables, threads, KHILZURGEE_TABLES_LENGTH);
+KHILZURGEE_NEXT(khilzurgee_tables, threads, holes, 1136);
+KHILZURGEE_LAST(khilzurgee_tables, holes, KHILZURGEE_TABLES_LENGTH);
 
 KHILZURGEE_FIRST(khilzurgee_line, refusal);
 KHILZURGEE_NEXT(khilzurgee_line, refusal, result, 1);
@@ -337,9 +352,9 @@ KHILZURGEE_LAST(khilzurgee_line, running, 3);
 /* Loads an image into the caller's tables, whatever they held before, and
    answers refusal, M or 0, 0. The refusal is the number that the image check
    answers. Where it is 0 the tables are the loaded ones: the image's directory,
-   no tasks, no event on and none signalled, clock 0. Where it is not they are
-   all zero, to the last byte, and every call on them is refused by 9. Either
-   way no byte of what they held is left.
+   no tasks, no event on and none signalled, clock 0, and grants go by the
+   smallest hole. Where it is not they are all zero, to the last byte, and every
+   call on them is refused by 9. Either way no byte of what they held is left.
 
    tables   where the tables lie; what they hold does not matter. Not NULL, and
             aligned to 8.
@@ -351,6 +366,13 @@ KHILZURGEE_LAST(khilzurgee_line, running, 3);
    length. */
 struct khilzurgee_line khilzurgee_load(struct khilzurgee_tables *tables,
                                        const uint8_t *image, size_t length);
+
+/* The old program, for recordings that were made before document 02's E8. All is
+   as with khilzurgee_load, but where the image is accepted 'holes' is 0: grants
+   go by the lowest start. khilzurgee_advance answers the calls on these tables
+   too. */
+struct khilzurgee_line khilzurgee_load_lowest(struct khilzurgee_tables *tables,
+                                              const uint8_t *image, size_t length);
 
 /* Answers one call, and leaves in the tables what they are after it. The answer
    is the three numbers of the desk's line. A refused call has result 0 and

@@ -18,17 +18,28 @@ static void is(const char *what, uint64_t found, uint64_t wanted)
 
 #define IS(field, wanted) is(#field, (uint64_t)(field), wanted)
 
-/* The image: two modules, N 5, events 0, 3 and 63 defined. */
-static void make_image(uint8_t *image)
+/* Two modules, N 5, events 0, 3 and 63 defined. */
+static const uint8_t fields[] = {
+    1, 2, 5, 0, 0, 0, 0, 0,              /* form, M, N, zero */
+    9, 0, 0, 0, 0, 0, 0, 0x80,           /* defined events */
+    2, 30, 1, 0, 0x78, 0x56, 0x34, 0x12, /* module 0 */
+    3, 0, 0, 0, 7                        /* module 1 */
+};
+
+/* Three modules of level 2, N 1, event 0 defined. */
+static const uint8_t chopped[] = {
+    1, 3, 1, 0, 0, 0, 0, 0,
+    1, 0, 0, 0, 0, 0, 0, 0,
+    2, 8, 0, 0, 0, 0, 0, 0,
+    2, 4, 0, 0, 0, 0, 0, 0,
+    2, 48
+};
+
+/* The image that begins with these bytes. */
+static void make_image(uint8_t *image, const uint8_t *head, size_t length)
 {
-    static const uint8_t head[] = {
-        1, 2, 5, 0, 0, 0, 0, 0,             /* form, M, N, zero */
-        9, 0, 0, 0, 0, 0, 0, 0x80,          /* defined events */
-        2, 30, 1, 0, 0x78, 0x56, 0x34, 0x12, /* module 0 */
-        3, 0, 0, 0, 7                       /* module 1 */
-    };
     memset(image, 0, KHILZURGEE_IMAGE_LENGTH);
-    memcpy(image, head, sizeof head);
+    memcpy(image, head, length);
     unsigned check = khilzurgee_block_check(image, KHILZURGEE_IMAGE_LENGTH);
     image[510] = (uint8_t)check;
     image[511] = (uint8_t)(check >> 8);
@@ -56,6 +67,7 @@ enum {
     LINK = 5,
     END = 6,
     SCHEDULE = 7,
+    WAIT = 8,
     SIGNAL = 9,
     TEST_EVENT = 10,
     READ = 13,
@@ -83,6 +95,7 @@ static void after_load(const struct khilzurgee_tables *t)
     IS(t->free_requests, 0x1fffeu);
     IS(t->clock, 0);
     IS(t->running, 0);
+    IS(t->holes, KHILZURGEE_SMALLEST_HOLE);
 }
 
 /* Of an event, by TEST EVENT. */
@@ -231,6 +244,86 @@ static void readings(const struct khilzurgee_tables *good)
     with_reading(good, 0, 1, KHILZURGEE_TABLES_BROKEN); /* it is no block */
 }
 
+/* 'holes' is 0 or 1, and no call changes it. */
+static void with_holes(const struct khilzurgee_tables *good, uint64_t holes, uint8_t refusal)
+{
+    static const uint8_t timer[KHILZURGEE_CALL_LENGTH] = {TIMER};
+    char what[60];
+    struct khilzurgee_tables t = *good;
+    t.holes = holes;
+    snprintf(what, sizeof what, "the refusal with holes %llu", (unsigned long long)holes);
+    is(what, khilzurgee_advance(&t, timer, sizeof timer).refusal, refusal);
+    IS(t.holes, holes);
+}
+
+static void rules_of_holes(const struct khilzurgee_tables *good)
+{
+    with_holes(good, KHILZURGEE_LOWEST_START, 0);
+    with_holes(good, KHILZURGEE_SMALLEST_HOLE, 0);
+    with_holes(good, 2, KHILZURGEE_TABLES_BROKEN);
+    with_holes(good, 0x100, KHILZURGEE_TABLES_BROKEN);
+    with_holes(good, 0x100000001, KHILZURGEE_TABLES_BROKEN);
+    with_holes(good, UINT64_MAX, KHILZURGEE_TABLES_BROKEN);
+}
+
+/* Tasks 1 to 4 have units 0-7, 8-11, 12-15 and 16-63. 1 ends; 2 waits for an
+   event and keeps its core; 3 ends. So there are holes of 8 at 0 and of 4 at 12,
+   and 4 schedules a task of 4 units and one of 8: blocks 1 and 3. */
+static void chop(struct khilzurgee_tables *t)
+{
+    static const uint8_t modules[] = {0, 1, 1, 2};
+    call(t, TIMER, 0, 0, 0, 0, 0);
+    for (unsigned i = 0; i < sizeof modules; i++) {
+        is("a started task", call(t, START, 0, modules[i], 0, 0, 0).result, i + 1);
+    }
+    call(t, END, 0, 0, 0, 0, 0);
+    call(t, WAIT, 1, 0, 1, 0, 1);
+    call(t, END, 0, 0, 0, 0, 0);
+    IS(t->pools[2], 0xffffffffffff0f00u);
+    is("the task of 4 units", call(t, SCHEDULE, 0, 1, 0, 0, 0).result, 1);
+    is("the task of 8 units", call(t, SCHEDULE, 0, 0, 0, 0, 0).result, 3);
+    in_place(t, 1, KHILZURGEE_PLACE_READY, 0);
+}
+
+/* By the smallest hole the task of 4 units leaves the hole of 8 whole; by the
+   lowest start it does not, and the task of 8 waits. */
+static void grants(void)
+{
+    struct khilzurgee_tables t;
+    uint8_t image[KHILZURGEE_IMAGE_LENGTH];
+    make_image(image, chopped, sizeof chopped);
+    is("the modules of the load", khilzurgee_load(&t, image, sizeof image).result, 3);
+    chop(&t);
+    IS(t.tasks[1].start, 12);
+    IS(t.tasks[3].start, 0);
+    in_place(&t, 3, KHILZURGEE_PLACE_READY, 0);
+    IS(t.pools[2], UINT64_MAX);
+    IS(t.holes, KHILZURGEE_SMALLEST_HOLE);
+    is("the modules of the old load", khilzurgee_load_lowest(&t, image, sizeof image).result, 3);
+    chop(&t);
+    IS(t.tasks[1].start, 0);
+    in_place(&t, 3, KHILZURGEE_PLACE_CORE, 1);
+    IS(t.pools[2], 0xffffffffffff0f0fu);
+    IS(t.holes, KHILZURGEE_LOWEST_START);
+}
+
+/* The old load, which leaves the same tables but for 'holes', and refuses the
+   same. */
+static void old_load(const struct khilzurgee_tables *loaded, const uint8_t *image)
+{
+    static const struct khilzurgee_tables zero;
+    struct khilzurgee_tables t;
+    struct khilzurgee_line line = khilzurgee_load_lowest(&t, image, KHILZURGEE_IMAGE_LENGTH);
+    is("the refusal of the old load", line.refusal, 0);
+    is("the result of the old load", line.result, 2);
+    IS(t.holes, KHILZURGEE_LOWEST_START);
+    t.holes = KHILZURGEE_SMALLEST_HOLE;
+    is("whether the old load leaves another byte", memcmp(&t, loaded, sizeof t) != 0, 0);
+    line = khilzurgee_load_lowest(&t, image, KHILZURGEE_IMAGE_LENGTH - 1);
+    is("the refusal of an old load of 511 bytes", line.refusal, KHILZURGEE_BAD_LENGTH);
+    is("whether a refused old load leaves a byte", memcmp(&t, &zero, sizeof t) != 0, 0);
+}
+
 /* Tables may hold anything: those that break a rule are answered by 9, and are
    left as they were. */
 static void broken(const struct khilzurgee_tables *good)
@@ -253,6 +346,7 @@ static void broken(const struct khilzurgee_tables *good)
     is("the refusal on tables of ones", khilzurgee_advance(&t, timer, sizeof timer).refusal, 9);
     is("the refusal of a load of no bytes", khilzurgee_load(&t, timer, 0).refusal, KHILZURGEE_BAD_LENGTH);
     IS(t.threads.last[8], 0);
+    IS(t.holes, 0);
     is("the refusal on all-zero tables", khilzurgee_advance(&t, timer, sizeof timer).refusal, 9);
 }
 
@@ -260,17 +354,20 @@ int main(void)
 {
     static struct khilzurgee_tables tables;
     uint8_t image[KHILZURGEE_IMAGE_LENGTH];
-    make_image(image);
+    make_image(image, fields, sizeof fields);
     is("the image check", khilzurgee_image_check(image, sizeof image), KHILZURGEE_ACCEPTED);
     is("the block check of 511 bytes", khilzurgee_block_check(image, sizeof image - 1), 0);
     struct khilzurgee_line line = khilzurgee_load(&tables, image, sizeof image);
     is("the refusal of the load", line.refusal, 0);
     is("the result of the load", line.result, 2);
     after_load(&tables);
+    old_load(&tables, image);
     after_calls(&tables);
     after_waiters(&tables);
     after_moves(&tables);
     readings(&tables);
+    rules_of_holes(&tables);
+    grants();
     broken(&tables);
     if (!wrong) {
         printf("every field of the tables is where the header has it\n");

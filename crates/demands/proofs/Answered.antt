@@ -63,8 +63,8 @@ module _ (image : List ℕ) where
   pub image-refused-exactly : (n : ℕ) → (loadOf image .outcome ≡ Refused n) ↔ ((imageRefusal ≡ n) × (n ≢ 0))
   image-refused-exactly = refused-where (load-outcome image)
 
-  -- "a refused image gives all-zero tables", and an all-zero directory
-  pub refused-image-zero : (n : ℕ) → loadOf image .outcome ≡ Refused n → (tablesOf image ≡ tabled allZero) × (loadOf image .directory ≡ noDirectory)
+  -- "a refused image gives all-zero tables", whichever program it is loaded for, and an all-zero directory
+  pub refused-image-zero : (holes n : ℕ) → loadOf image .outcome ≡ Refused n → (tablesOf holes image ≡ tabled allZero) × (loadOf image .directory ≡ noDirectory)
   refused-image-zero = refused-tables image
 
   -- "no accepted answer carries a zero result": M is 1 to 32
@@ -75,6 +75,7 @@ module _ (image : List ℕ) where
 pub zeros : tabled allZero ≡ record {
   directory = record { modules = 0; every = 0; defined = 0; entries = replicate 32 (record { level = 0; units = 0; flags = 0; point = 0 }) };
   clock = 0;
+  holes = 0;
   on = 0;
   signalled = 0;
   running = 0;

@@ -2,7 +2,7 @@
 -- image written back gives the same 512 bytes, and a directory written and loaded comes back equal."
 --
 -- That the code does exactly that is said by its contracts, which are proved of it, have no `requires` and leave no second answer (proofs/Unique.antt of those crates):
---   `executive::load`     of any bytes, the tables and the answer are those of `tablesOf` and `loadOf`
+--   `executive::load`     of any bytes, the tables and the answer are those of `tablesOf` and `loadOf`; `executive::load_lowest` for the old program
 --   `executive::step`     of any tables and any bytes, the tables and the answer are those of `stepOf`
 --   `executive::khilzurgee_advance`  the tables that are lent are left as those of `stepOf`, and the three numbers are its line
 --   `executive::line`     the three numbers are `lineOf`
@@ -37,9 +37,9 @@ module _ (t : Tables) (bytes : List ℕ) where
   accepted-answer = accepted-line t bytes
 
 -- ---- Loading: the M that is answered is that of the tables, and their directory is what the bytes spell
-module _ (image : List ℕ) (accepted : refusalOf (loadOf image .outcome) ≡ 0) where
-  pub loaded-answer : (loadLine image ≡ 0 ∷ tablesOf image .directory .modules ∷ 0 ∷ []) × (tablesOf image .directory ≡ directoryOf image)
-  loaded-answer = loaded-line image accepted
+module _ (holes : ℕ) (image : List ℕ) (accepted : refusalOf (loadOf image .outcome) ≡ 0) where
+  pub loaded-answer : (loadLine image ≡ 0 ∷ tablesOf holes image .directory .modules ∷ 0 ∷ []) × (tablesOf holes image .directory ≡ directoryOf image)
+  loaded-answer = loaded-line image holes accepted
 
 -- ---- "An accepted image written back gives the same 512 bytes": into any buffer of that length
 pub written-back : (image buffer : List ℕ) → Bytes image → length buffer ≡ 512 → refusalOf (loadOf image .outcome) ≡ 0

@@ -7,3 +7,4 @@ pub mod Overtakes
 pub mod UnderRead
 pub mod Signalled
 pub mod Waited
+pub mod Holes

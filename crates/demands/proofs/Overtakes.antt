@@ -28,4 +28,4 @@ nobody-overtakes image {t} reached bytes level lo hi =
     let g = reached-lawful image reached .state in
     let a = accepts (read t) (callOf bytes) (rows-left t bytes (z .1) .rows) g in
     rw (z .0, read-tabled (keeps g a)) (none-overtakes g a .turn level lo hi))
-    (λ z. rw (z .0) (stays (read t) .turn level lo hi)) (tested (firstOf (refusals t bytes)) 0)
+    (λ z. rw (z .0) (stays {o = read t} (read t) .turn level lo hi)) (tested (firstOf (refusals t bytes)) 0)

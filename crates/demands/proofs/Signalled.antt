@@ -11,6 +11,7 @@ use lib.ListN.{length}
 use Rattle.words.specs.Words.{has}
 use Rattle.answers.specs.Answer.{refusalOf, resultOf}
 use Rattle.image.specs.Load.{loadOf}
+use Rattle.pools.specs.Pools.{SmallestHole}
 use Rattle.tables.specs.declared.Tables.{Tables}
 use Rattle.tables.specs.State.{State, withSignalled}
 use Rattle.calls.specs.declared.Call.{Call}
@@ -24,17 +25,17 @@ use Rattle.lawful.proofs.Told.After.{reached-directory, after-reached}
 use Rattle.lawful.proofs.Told.Signalling.{test-accepted}
 use Rattle.lawful.proofs.Told.Signalled.{never-where, value-where, one-of-three, on-signalled, signalled-defined}
 
--- ---- TEST EVENT, after any calls from a load.
-module _ (image : List ℕ) (loads : refusalOf (loadOf image .outcome) ≡ 0) (calls : List (List ℕ)) where
+-- ---- TEST EVENT, after any calls from a load, by either program.
+module _ (holes : ℕ) (either : holes ≤ SmallestHole) (image : List ℕ) (loads : refusalOf (loadOf image .outcome) ≡ 0) (calls : List (List ℕ)) where
   abbrev pub loadedTables : Tables
-  loadedTables = tablesOf image
+  loadedTables = tablesOf holes image
 
   -- the tables after the calls; they are reached, so that they hold together (Kept)
   abbrev pub now : Tables
   now = afterCalls loadedTables calls
 
   pub now-reached : Reached image now
-  now-reached = after-reached image calls (load loads)
+  now-reached = after-reached image calls (load holes either loads)
 
   -- a defined event is answered for, while a task runs
   pub answered : (bytes : List ℕ) → length bytes ≡ 16 → callOf bytes .code ≡ TEST-EVENT → now .running ≢ 0 → callOf bytes .number ≤ 63
@@ -50,19 +51,19 @@ module _ (image : List ℕ) (loads : refusalOf (loadOf image .outcome) ≡ 0) (c
 
     -- "3 for a defined event that hasn't been signalled on or off since the load", and for no other: of the calls none was an accepted SIGNAL of it
     pub never-signalled : (answer ≡ 3) ↔ Unsignalled event loadedTables calls
-    never-signalled = never-where image loads calls bytes test accepted
+    never-signalled = never-where holes image loads calls bytes test accepted
 
     -- "1 for off": a SIGNAL of it was accepted since the load, and the last one's value was 0
     pub signalled-off : (answer ≡ 1) ↔ LastSignalled event 0 loadedTables calls
-    signalled-off = value-where image loads calls bytes test accepted 0 (omega arith)
+    signalled-off = value-where holes image loads calls bytes test accepted 0 (omega arith)
 
     -- "2 for on": a SIGNAL of it was accepted since the load, and the last one's value was 1
     pub signalled-on : (answer ≡ 2) ↔ LastSignalled event 1 loadedTables calls
-    signalled-on = value-where image loads calls bytes test accepted 1 (omega arith)
+    signalled-on = value-where holes image loads calls bytes test accepted 1 (omega arith)
 
     -- and there is no fourth answer
     pub no-fourth : (answer ≡ 1) ⊎ ((answer ≡ 2) ⊎ (answer ≡ 3))
-    no-fourth = one-of-three image loads calls bytes test accepted
+    no-fourth = one-of-three holes image loads calls bytes test accepted
 
 -- ---- "The table rules gain: an event that is on has been signalled, and a signalled one is defined." Of all tables that are reached
 module _ (image : List ℕ) {t : Tables} (r : Reached image t) (e : ℕ) where

@@ -1,6 +1,7 @@
 // The desk: reads an image and then calls from standard input, and writes a line for the load and one for each call: refusal, result, running task.
-// With `--explain` each line goes on with the same in words, and with who begins to wait; with `--since` with the readings that the call has changed. Where the
-// input cannot be read or the output cannot be written, it says so on standard error, with how many calls were answered.
+// With `--explain` each line goes on with the same in words, and with who begins to wait; with `--since` with the readings that the call has changed. With
+// `--lowest` core is granted by the lowest start, as in recordings made before E8 of document 02. Where the input cannot be read or the output cannot be written,
+// it says so on standard error, with how many calls were answered.
 //
 // It answers for 'A session in full' of document 01. It keeps one set of tables, which `executive::khilzurgee_advance` changes where they lie.
 mod telling;
@@ -19,26 +20,47 @@ pub struct Taken {
 }
 
 fn main() {
-    let words = os::arg_count();
-    if words < 2 {
-        open(Wish::Numbers);
-        return;
-    }
-    let mut word = [0u8; 9];
-    let n = os::arg(1, &mut word);
-    let explain = check::same(&word[..n], b"--explain");
-    let since = check::same(&word[..n], b"--since");
-    if explain & (words == 2) {
-        open(Wish::Words);
-    } else if since & (words == 2) {
-        open(Wish::Readings);
+    let lowest = given(b"--lowest");
+    let explain = given(b"--explain");
+    let since = given(b"--since");
+    let known = 1 + one(lowest) + one(explain) + one(since);
+    if (known < os::arg_count()) | (explain & since) {
+        pipes::give(
+            STDERR_FILENO,
+            b"usage: desk [--lowest] [--explain | --since]\n",
+        );
+    } else if explain {
+        open(lowest, Wish::Words);
+    } else if since {
+        open(lowest, Wish::Readings);
     } else {
-        pipes::give(STDERR_FILENO, b"usage: desk [--explain | --since]\n");
+        open(lowest, Wish::Numbers);
     }
 }
 
+// The word is one of those that the program was started with.
+fn given(word: &[u8]) -> bool {
+    let words = os::arg_count();
+    let mut found = false;
+    let mut i: usize = 1;
+    while i < words {
+        let mut next = [0u8; 9];
+        let n = os::arg(i, &mut next);
+        found = found | check::same(&next[..n], word);
+        i += 1;
+    }
+    found
+}
+
+// 1 for a word that was given.
+fn one(given: bool) -> usize
+    ensures { λ r. ⌜ r ≤ 1 ⌝ }
+{
+    if given { 1 } else { 0 }
+}
+
 // Reads the image: 512 bytes, or what there is.
-fn open(wish: Wish) {
+fn open(lowest: bool, wish: Wish) {
     let mut image = [0u8; 512];
     let got = pipes::take(STDIN_FILENO, &mut image);
     if got.failed {
@@ -46,12 +68,16 @@ fn open(wish: Wish) {
         return;
     }
     let n = got.count;
-    session(&image[..n], wish);
+    session(&image[..n], lowest, wish);
 }
 
-// The load, and the calls where it is accepted.
-fn session(image: &[u8], wish: Wish) {
-    let begun = executive::load(image);
+// The load, for grants by the smallest hole or by the lowest start, and the calls where it is accepted.
+fn session(image: &[u8], lowest: bool, wish: Wish) {
+    let begun = if lowest {
+        executive::load_lowest(image)
+    } else {
+        executive::load(image)
+    };
     let answer = executive::line(begun);
     if !saying::line(telling::opening(answer, wish)) {
         saying::unwritten_after(0);

@@ -19,12 +19,12 @@ use Rattle.meaning.specs.declared.Step.{Step}
 use Rattle.meaning.specs.Step.{tablesOf, lineOf, loadLine}
 
 -- what loading an image gives
-abbrev pub begun : List ℕ → Step
-begun image = record { tables = tablesOf image; outcome = loadOf image .outcome }
+abbrev pub begun : ℕ → List ℕ → Step
+begun holes image = record { tables = tablesOf holes image; outcome = loadOf image .outcome }
 
-pub begun-accepted : (b : List ℕ) (m : ℕ) → loadOf b .outcome ≡ Accepted m → tabled (loaded (loadOf b .directory)) ≡ tablesOf b
+pub begun-accepted : (holes : ℕ) (b : List ℕ) (m : ℕ) → loadOf b .outcome ≡ Accepted m → tabled (loaded holes (loadOf b .directory)) ≡ tablesOf holes b
 unfolding tablesOf
-begun-accepted b m e = rw e
+begun-accepted holes b m e = rw e
 
 -- no load is refused by 0: the case where no row applies is accepted
 abbrev taken : Outcome → ℕ
@@ -36,16 +36,16 @@ refused-number b n e z =
     let good = ap (λ (l : Loaded). taken (l .outcome)) (load-accepted b (sym (check-is-load b) ∙ z)) in
     omega (arith, good, ap taken e)
 
-pub begun-refused : (b : List ℕ) (n : ℕ) → loadOf b .outcome ≡ Refused n → tabled allZero ≡ tablesOf b
+pub begun-refused : (holes : ℕ) (b : List ℕ) (n : ℕ) → loadOf b .outcome ≡ Refused n → tabled allZero ≡ tablesOf holes b
 unfolding tablesOf
-begun-refused b n e = rw (ne-eqb (refusalOf (loadOf b .outcome)) 0 (refused-number b n e))
+begun-refused holes b n e = rw (ne-eqb (refusalOf (loadOf b .outcome)) 0 (refused-number b n e))
 
 -- "a line for the load (refusal, M or 0, 0)": no task runs in the tables of a load
-none-runs : (x : Bool) (d : Directory) → tabled (if x then loaded d else allZero) .running ≡ 0
+none-runs : (x : Bool) (holes : ℕ) (d : Directory) → tabled (if x then loaded holes d else allZero) .running ≡ 0
 unfolding loaded allZero
-none-runs true d = refl
-none-runs false d = refl
+none-runs true holes d = refl
+none-runs false holes d = refl
 
-pub begun-line : (b : List ℕ) → lineOf (begun b) ≡ loadLine b
+pub begun-line : (holes : ℕ) (b : List ℕ) → lineOf (begun holes b) ≡ loadLine b
 unfolding lineOf loadLine tablesOf
-begun-line b = rw (none-runs (eqb (refusalOf (loadOf b .outcome)) 0) (loadOf b .directory))
+begun-line holes b = rw (none-runs (eqb (refusalOf (loadOf b .outcome)) 0) holes (loadOf b .directory))

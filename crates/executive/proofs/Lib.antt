@@ -1,4 +1,5 @@
 pub mod Begins
 pub mod Broken
 pub mod Lent
+pub mod Loading
 pub mod Unique

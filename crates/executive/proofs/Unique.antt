@@ -1,5 +1,5 @@
 -- No second answer: any two results that both meet what a public function of this crate promises are equal, and so are the tables that two runs leave. `Post`
--- is the promise itself, as the contract in the source states it. Of `khilzurgee_load` and `khilzurgee_advance`, which are walked by hand, it is the clause in
+-- is the promise itself, as the contract in the source states it. Of the two loads and the call that are lent the tables, which are walked by hand, it is the clause in
 -- the program logic: from it for two answers follows that they are equal.
 use mathlib.Core.Path.{_≡_, sym, _∙_}
 use mathlib.Core.List.{List, [], _∷_}
@@ -23,12 +23,17 @@ use Rattle.executive.proofs.khilzurgee_advance as advance
 use Rattle.executive.proofs.khilzurgee_block_check.Reads as block-check
 use Rattle.executive.proofs.khilzurgee_image_check.Reads as check
 use Rattle.executive.proofs.khilzurgee_load as lent-load
+use Rattle.executive.proofs.khilzurgee_load_lowest as lent-lowest
 use Rattle.executive.proofs.load.Reads as load
+use Rattle.executive.proofs.load_lowest.Reads as load-lowest
 use Rattle.executive.proofs.line.Reads as line
 use Rattle.executive.proofs.step.Reads as step
 
 pub load-only : OneAnswer load.Post
 load-only κs given r s end end′ p q = p ∙ sym q
+
+pub load-lowest-only : OneAnswer load-lowest.Post
+load-lowest-only κs given r s end end′ p q = p ∙ sym q
 
 pub step-only : OneAnswer step.Post
 step-only κs given r s end end′ p q = p ∙ sym q
@@ -50,7 +55,7 @@ module _ {M : Type 1} (𝓤 : URA M) (ns : List ℕ) (u : Tables) where
   pub one-of-both : (r s : Answer) (t t′ : Tables) → ent 𝓤 (sep 𝓤 (Fixed r t) (Fixed s t′)) (fact 𝓤 ((r ≡ s) × (t ≡ t′)))
   one-of-both r s t t′ = facts-once 𝓤 (λ p q. (one-answer r s ns (p .0) (q .0), p .1 ∙ sym (q .1)))
 
--- what the two promise fixes both; of the parameters at exit, `.0` is the tables that were lent
+-- what these promise fixes both; of the parameters at exit, `.0` is the tables that were lent
 module _ {M : Type 1} (𝓤 : URA M) (H : Heap 𝓤) (A : Atoms 𝓤) (mem : Memory → SProp 𝓤) (run : Routine → Fun 𝓤) (κs : Lfts 2) (r s : Answer) where
   module _ (given : Args lent-load.signature κs) (end end′ : AtExit lent-load.ended κs) where
     abbrev Loaded : Answer → AtExit lent-load.ended κs → SProp 𝓤
@@ -58,6 +63,13 @@ module _ {M : Type 1} (𝓤 : URA M) (H : Heap 𝓤) (A : Atoms 𝓤) (mem : Mem
 
     pub lent-load-only : ent 𝓤 (sep 𝓤 (Loaded r end) (Loaded s end′)) (fact 𝓤 ((r ≡ s) × (now (end .0) ≡ now (end′ .0))))
     lent-load-only = one-of-both 𝓤 _ _ r s (now (end .0)) (now (end′ .0))
+
+  module _ (given : Args lent-lowest.signature κs) (end end′ : AtExit lent-lowest.ended κs) where
+    abbrev LoadedLowest : Answer → AtExit lent-lowest.ended κs → SProp 𝓤
+    LoadedLowest x e = lent-lowest.clauses 𝓤 H A mem run κs given .ensures tt x e
+
+    pub lent-lowest-only : ent 𝓤 (sep 𝓤 (LoadedLowest r end) (LoadedLowest s end′)) (fact 𝓤 ((r ≡ s) × (now (end .0) ≡ now (end′ .0))))
+    lent-lowest-only = one-of-both 𝓤 _ _ r s (now (end .0)) (now (end′ .0))
 
   module _ (given : Args advance.signature κs) (end end′ : AtExit advance.ended κs) where
     abbrev Advanced : Answer → AtExit advance.ended κs → SProp 𝓤

@@ -1,17 +1,22 @@
 // The executive: its public face, for programs in Rattle, C and Rust. It loads an image, answers one call at a time, and keeps the tables where they lie.
 //
 // It answers for what document 01 promises of a load and of a call, whole: every entry takes any bytes and any tables, asks nothing, and states its
-// complete answer and the tables that it leaves. The three exported functions are what another language sees; `include/khilzurgee.h` declares them and the
-// layout of the structs. A load and a call each have one function by value, which does all of it, and an exported one that only puts the tables in their place.
+// complete answer and the tables that it leaves. The exported functions are what another language sees; `include/khilzurgee.h` declares them and the
+// layout of the structs. A load and a call each have one function by value, which does all of it, and exported ones that only put the tables in their place.
+//
+// There are two loads: `load`, and `load_lowest` for recordings made before E8 of document 02, whose grants go by the lowest start. All else is one code.
 use answers::Outcome;
 use calls::Answer;
 use meaning::Step;
+use pools::LOWEST_START;
+use pools::SMALLEST_HOLE;
 use tables::Tables;
 ghost use mathlib.Core.List.{[], _∷_};
 ghost use mathlib.Core.Path.{_≡_};
 ghost use Rattle.answers.specs.Answer.{refusalOf};
 ghost use Rattle.image.specs.Load.{loadOf};
 ghost use Rattle.sealed.specs.Sealed.{blockCheck};
+ghost use Rattle.pools.specs.Pools.{LowestStart, SmallestHole};
 ghost use Rattle.meaning.specs.Step.{tablesOf, stepOf, lineOf, loadLine};
 
 // What is had after a load or a call: the tables, and the three numbers of the answer.
@@ -22,13 +27,27 @@ pub struct After {
 
 // Loads an image from any bytes: the tables to begin with, all zero where it is refused, and the answer, its result M.
 pub fn load(image: &[u8]) -> Step
-    ensures { λ r. ⌜ r ≡ record { tables = tablesOf (now (image .entry)); outcome = loadOf (now (image .entry)) .outcome } ⌝ }
+    ensures { λ r. ⌜ r ≡ record { tables = tablesOf SmallestHole (now (image .entry)); outcome = loadOf (now (image .entry)) .outcome } ⌝ }
+{
+    begin(SMALLEST_HOLE, image)
+}
+
+// The same for the old program, whose grants go by the lowest start.
+pub fn load_lowest(image: &[u8]) -> Step
+    ensures { λ r. ⌜ r ≡ record { tables = tablesOf LowestStart (now (image .entry)); outcome = loadOf (now (image .entry)) .outcome } ⌝ }
+{
+    begin(LOWEST_START, image)
+}
+
+// The load, by the rule that the grants will follow.
+fn begin(holes: u64, image: &[u8]) -> Step
+    ensures { λ r. ⌜ r ≡ record { tables = tablesOf holes (now (image .entry)); outcome = loadOf (now (image .entry)) .outcome } ⌝ }
 {
     let found = image::load(image);
     let outcome = found.outcome;
     let directory = found.directory;
     let tables = match outcome {
-        Outcome::Accepted(_) => tables::loaded(directory),
+        Outcome::Accepted(_) => tables::loaded(holes, directory),
         Outcome::Refused(_) => tables::all_zero(),
     };
     Step {
@@ -59,11 +78,11 @@ pub fn line(given: Step) -> Answer
 }
 
 // A load, whole.
-fn after_load(image: &[u8]) -> After
+fn after_load(holes: u64, image: &[u8]) -> After
     ensures { λ r. ⌜ (r .answer .refusal ∷ r .answer .result ∷ r .answer .running ∷ [] ≡ loadLine (now (image .entry)))
-        × (r .tables ≡ tablesOf (now (image .entry))) ⌝ }
+        × (r .tables ≡ tablesOf holes (now (image .entry))) ⌝ }
 {
-    let begun = load(image);
+    let begun = begin(holes, image);
     let tables = begun.tables;
     let answer = line(begun);
     After {
@@ -105,9 +124,19 @@ pub extern "C" fn khilzurgee_block_check(block: &[u8]) -> u16
 // Loads an image into the tables that are lent, whatever they hold: all zero where it is refused. The answer is refusal, M or 0, 0.
 #[no_mangle]
 pub extern "C" fn khilzurgee_load(t: &mut Tables, image: &[u8]) -> Answer
-    ensures { λ r. ⌜ (r .refusal ∷ r .result ∷ r .running ∷ [] ≡ loadLine (now (image .entry))) × (now (t .exit) ≡ tablesOf (now (image .entry))) ⌝ }
+    ensures { λ r. ⌜ (r .refusal ∷ r .result ∷ r .running ∷ [] ≡ loadLine (now (image .entry))) × (now (t .exit) ≡ tablesOf SmallestHole (now (image .entry))) ⌝ }
 {
-    let after = after_load(image);
+    let after = after_load(SMALLEST_HOLE, image);
+    *t = after.tables;
+    after.answer
+}
+
+// The same for the old program: grants go by the lowest start, as in recordings made before E8. Calls go on with `khilzurgee_advance`.
+#[no_mangle]
+pub extern "C" fn khilzurgee_load_lowest(t: &mut Tables, image: &[u8]) -> Answer
+    ensures { λ r. ⌜ (r .refusal ∷ r .result ∷ r .running ∷ [] ≡ loadLine (now (image .entry))) × (now (t .exit) ≡ tablesOf LowestStart (now (image .entry))) ⌝ }
+{
+    let after = after_load(LOWEST_START, image);
     *t = after.tables;
     after.answer
 }

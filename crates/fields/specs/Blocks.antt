@@ -7,6 +7,7 @@ use lib.Bits.{bitAnd}
 use lib.Dec.{eqb, leb, ltb}
 use lib.ListN.{getD}
 use Rattle.words.specs.Words.{if_then_else_, _implies_, allOf, someOf, oneTo, standing, allTrue, has, size}
+use Rattle.pools.specs.Pools.{SmallestHole}
 use Rattle.tables.specs.declared.Task.{Task}
 use Rattle.tables.specs.declared.Request.{Request}
 use Rattle.tables.specs.declared.Tables.{Tables}
@@ -114,6 +115,7 @@ firstTests s =
     directoryPasses (s .directory)
     ∷ leb (s .running) 24
     ∷ leb (s .channel) 16
+    ∷ leb (s .holes) SmallestHole
     ∷ eqb (bitAnd (s .on) (s .directory .defined)) (s .on)
     ∷ eqb (bitAnd (s .on) (s .signalled)) (s .on)
     ∷ eqb (bitAnd (s .signalled) (s .directory .defined)) (s .signalled)

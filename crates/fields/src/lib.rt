@@ -10,6 +10,7 @@ ghost use Rattle.tables.specs.State.{read};
 ghost use Rattle.meaning.specs.Rules.{directoryPasses};
 ghost use Rattle.fields.specs.Blocks.{Marked, firstPass};
 use image::Directory;
+use pools::SMALLEST_HOLE;
 use tables::Tables;
 use words::sets32;
 
@@ -31,6 +32,7 @@ pub fn first_pass(t: Tables, marks: [u8; 41]) -> bool
     directory_passes(d)
         & (t.running <= 24)
         & (t.channel <= 16)
+        & (t.holes <= SMALLEST_HOLE)
         & (t.on & d.defined == t.on)
         & (t.on & t.signalled == t.on)
         & (t.signalled & d.defined == t.signalled)

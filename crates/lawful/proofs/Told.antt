@@ -1,4 +1,5 @@
--- What `demands` cites: how a step ends, what is reached, whom an abort takes, that nobody overtakes, that core stays under a read, what is known of an event, since when a task waits.
+-- What `demands` cites: how a step ends, what is reached, whom an abort takes, that nobody overtakes, that core stays under a read, what is known of an event, since when a task waits, from which start core is
+-- granted.
 pub mod Loaded
 pub mod Ends
 pub mod Results
@@ -15,6 +16,8 @@ pub mod Gone
 pub mod Turns
 pub mod GetsInTurn
 pub mod Overtakes
+pub mod Granted
+pub mod Started
 pub mod Pages
 pub mod UnderRead
 pub mod Throughout

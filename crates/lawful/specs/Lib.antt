@@ -4,6 +4,7 @@ pub mod Accepts
 pub mod Tables
 pub mod UnderRead
 pub mod Reached
+pub mod Granted
 pub mod Signals
 pub mod Waited
 pub mod InTurn

@@ -6,14 +6,16 @@ use lib.Dec.{eqb}
 use Rattle.words.specs.Words.{if_then_else_}
 use Rattle.answers.specs.Answer.{refusalOf}
 use Rattle.image.specs.Load.{loadOf}
+use Rattle.pools.specs.Pools.{SmallestHole}
 use Rattle.tables.specs.declared.Tables.{Tables}
 use Rattle.tables.specs.State.{State, readyQueue, taskAt, queue}
 use Rattle.meaning.specs.Finish.{ended, unlinked}
 use Rattle.meaning.specs.Step.{stepOf, tablesOf}
 
 -- "From a loaded image, after any sequence of calls, refused ones included": any lists as calls, bytes or not
+-- by either program: with the grants of today or with those of the old program (E8)
 pub data Reached (image : List ℕ) : Tables → Type 0 where
-  load : refusalOf (loadOf image .outcome) ≡ 0 → Reached image (tablesOf image)
+  load : (holes : ℕ) → holes ≤ SmallestHole → refusalOf (loadOf image .outcome) ≡ 0 → Reached image (tablesOf holes image)
   step : {t : Tables} (bytes : List ℕ) → Reached image t → Reached image (stepOf t bytes .tables)
 
 -- E1: the tables that calls leave, made one after the other from t on, refused ones included

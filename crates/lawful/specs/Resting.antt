@@ -6,7 +6,7 @@ use mathlib.Core.List.{List, [], _∷_}
 use Prim.Native.Nat.{ℕ, _≤_}
 use Rattle.threads.specs.Threads.{count}
 use Rattle.tables.specs.State.{State, eventQueue, readyQueue, coreQueue, channelQueue, taskAt, poolAt, queue, unitsOf}
-use Rattle.pools.specs.Pools.{startOf}
+use Rattle.pools.specs.Pools.{longEnough}
 use Rattle.meaning.specs.Conditions.{enough}
 use Rattle.meaning.specs.Rules.{upward}
 use Rattle.lawful.specs.Shape.{Shape, InHand}
@@ -17,7 +17,7 @@ pub record Asleep (s : State) (m : List ℕ) : Type 0 where
 
 -- "and no first waiter for core would fit", of one level
 pub record Stuck (s : State) (level : ℕ) : Type 0 where
-  pub stuck : (k : ℕ) (l : List ℕ) → queue s (coreQueue level) ≡ k ∷ l → 64 ≤ startOf (poolAt s level) (unitsOf s k)
+  pub stuck : (k : ℕ) (l : List ℕ) → queue s (coreQueue level) ≡ k ∷ l → longEnough (poolAt s level) (unitsOf s k) ≡ false
 
 -- "The processor is idle only if nothing is ready"
 pub record Busy (s : State) : Type 0 where

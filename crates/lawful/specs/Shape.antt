@@ -19,7 +19,7 @@ use Rattle.tables.specs.declared.Task.{Task}
 use Rattle.tables.specs.declared.Request.{Request}
 use Rattle.tables.specs.Blocks.{Free, Running, Ready, InCore, InEvent, InTime, InLink, InCheck, Ending, Queued, OnChannel, noTask, noRequest, inPlace, taskBlocks, requestBlocks}
 use Rattle.tables.specs.State.{State, timeQueue, channelQueue, node, taskAt, requestAt, poolAt, queue, levelOf}
-use Rattle.pools.specs.Pools.{run}
+use Rattle.pools.specs.Pools.{run, SmallestHole}
 use Rattle.meaning.specs.Rules.{directoryPasses, queueFor}
 use Rattle.meaning.specs.Channel.{channelLevel}
 
@@ -140,6 +140,7 @@ pub record Blank (s : State) : Type 0 where
   pub freeRequests-none : bit (s .freeRequests) 0 ≡ 0
   pub running : s .running ≤ taskBlocks
   pub channel : s .channel ≤ requestBlocks
+  pub holes : s .holes ≤ SmallestHole
   pub events : Events (s .directory .defined) (s .on) (s .signalled)
 
 -- ---- All of them: the blocks h are in hand, and e (0: none) has a child though it is not in LINK. "the time queue by time, the channel queue by level"

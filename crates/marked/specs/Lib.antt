@@ -1,4 +1,5 @@
 pub mod Played
 pub mod Session
 pub mod Marked
+pub mod Days
 pub mod Worked

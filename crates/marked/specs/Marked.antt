@@ -4,6 +4,7 @@ use mathlib.Core.List.{List, [], _∷_, _++_, map}
 use Prim.Native.Nat.{ℕ}
 use lib.ListN.{take, replicate}
 use Rattle.sealed.specs.Sealed.{checkOf}
+use Rattle.pools.specs.Pools.{SmallestHole}
 use Rattle.tables.specs.State.{State, withClock, loaded, tabled}
 use Rattle.calls.specs.Calls.{callOf}
 use Rattle.meaning.specs.Ready.{dispatched}
@@ -47,7 +48,7 @@ times n c = replicate n c
 
 -- N 2, events 0 to 2; modules 0 (1, 4), 1 (1, 60), 2 (1, 61), 3 (1, 0)
 unfoldable pub plant : State
-plant = loaded (directory 2 7 (levelUnits 1 4 ∷ levelUnits 1 60 ∷ levelUnits 1 61 ∷ levelUnits 1 0 ∷ []))
+plant = loaded SmallestHole (directory 2 7 (levelUnits 1 4 ∷ levelUnits 1 60 ∷ levelUnits 1 61 ∷ levelUnits 1 0 ∷ []))
 
 -- "With all 510 bytes zero it is 1; with only byte 509 at 255 it is 64,530."
 unfoldable pub checkLines : List Line

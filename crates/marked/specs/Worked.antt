@@ -1,13 +1,13 @@
 -- The words that the meaning is written in, at numbers that can be checked by hand: bytes, sets, pools and queues, each line as in 'Either side of the line'.
 use mathlib.Core.Bool.{Bool}
 use mathlib.Core.List.{List, [], _∷_, _++_}
-use Prim.Native.Nat.{ℕ, _+_, _-_}
+use Prim.Native.Nat.{ℕ, _+_, _-_, _^_}
 use lib.ListN.{getD, replicate, set}
 use Rattle.words.specs.Words.{if_then_else_, has, adding, dropping, size, least, insertedBy}
 use Rattle.words.specs.Bytes.{number, digit}
 use Rattle.threads.specs.declared.Threads.{Threads}
 use Rattle.threads.specs.Threads.{threaded, walk, hd, lst, without, insertBefore, queuesOf, queueIn}
-use Rattle.pools.specs.Pools.{run, startOf}
+use Rattle.pools.specs.Pools.{LowestStart, SmallestHole, startOf, run}
 use Rattle.marked.specs.Marked.{Line, unmarked, value}
 
 -- 1 for true
@@ -33,23 +33,48 @@ setLines =
     ∷ unmarked (12 ∷ 12 ∷ []) (dropping 2147483660 31 ∷ dropping 12 32 ∷ [])
     ∷ []
 
--- 60 units are free in one run; 63 are, and no 60 of them in one run; none asked, all asked, more asked than there are
+-- By the lowest start. 60 units are free in one run; 63 are, and no 60 of them in one run; none asked, all asked, more asked than there are
 unfoldable pub poolLines : List Line
 poolLines =
-    unmarked (0 ∷ 64 ∷ []) (startOf (run 60 4) 60 ∷ startOf (run 60 4) 61 ∷ [])
-    ∷ unmarked (value 64) (value (startOf (run 30 1) 60))
-    ∷ unmarked (0 ∷ 0 ∷ 64 ∷ []) (startOf 0 0 ∷ startOf 0 64 ∷ startOf 0 65 ∷ [])
+    unmarked (0 ∷ 64 ∷ []) (startOf LowestStart (run 60 4) 60 ∷ startOf LowestStart (run 60 4) 61 ∷ [])
+    ∷ unmarked (value 64) (value (startOf LowestStart (run 30 1) 60))
+    ∷ unmarked (0 ∷ 0 ∷ 64 ∷ []) (startOf LowestStart 0 0 ∷ startOf LowestStart 0 64 ∷ startOf LowestStart 0 65 ∷ [])
     ∷ unmarked (18446744073709551615 ∷ 0 ∷ []) (run 0 64 ∷ run 64 0 ∷ [])
     ∷ []
 
 -- 40 units are granted, then 20; 24 more have to wait. The 40 are given back, and the 24 are granted at the start 0.
 unfoldable pub grantLines : List Line
 grantLines =
-    unmarked (value 1099511627775) (value (run (startOf 0 40) 40))
-    ∷ unmarked (value 1152921504606846975) (value (1099511627775 + run (startOf 1099511627775 20) 20))
-    ∷ unmarked (value 64) (value (startOf 1152921504606846975 24))
+    unmarked (value 1099511627775) (value (run (startOf LowestStart 0 40) 40))
+    ∷ unmarked (value 1152921504606846975) (value (1099511627775 + run (startOf LowestStart 1099511627775 20) 20))
+    ∷ unmarked (value 64) (value (startOf LowestStart 1152921504606846975 24))
     ∷ unmarked (value 1152920405095219200) (value (1152921504606846975 - run 0 40))
-    ∷ unmarked (value 1152920405111996415) (value (1152920405095219200 + run (startOf 1152920405095219200 24) 24))
+    ∷ unmarked (value 1152920405111996415) (value (1152920405095219200 + run (startOf LowestStart 1152920405095219200 24) 24))
+    ∷ []
+
+-- E8: where a grant takes so many units, by the smallest hole and by the lowest start
+abbrev pub byBoth : ℕ → ℕ → List ℕ
+byBoth granted n = startOf SmallestHole granted n ∷ startOf LowestStart granted n ∷ []
+
+-- all is granted but for the units of these runs
+abbrev pub butFor : ℕ → ℕ
+butFor free = 2 ^ 64 - 1 - free
+
+-- E8: holes of 10 at 3 and of 7 at 20: 7 units go into that of 7, 8 into that of 10, 11 nowhere. Of two holes of 7, and one of 9 below them, the lower of the two; one at
+-- each end of the pool; the empty pool is one hole, and of a full one nothing is to be had but no units
+unfoldable pub holeLines : List Line
+holeLines =
+    unmarked (20 ∷ 3 ∷ []) (byBoth (butFor (run 3 10 + run 20 7)) 7)
+    ∷ unmarked (3 ∷ 3 ∷ []) (byBoth (butFor (run 3 10 + run 20 7)) 8)
+    ∷ unmarked (64 ∷ 64 ∷ []) (byBoth (butFor (run 3 10 + run 20 7)) 11)
+    ∷ unmarked (20 ∷ 2 ∷ []) (byBoth (butFor (run 2 9 + run 20 7 + run 40 7)) 5)
+    ∷ unmarked (61 ∷ 0 ∷ []) (byBoth (butFor (run 0 4 + run 61 3)) 3)
+    ∷ unmarked (0 ∷ 0 ∷ []) (byBoth (butFor (run 0 3 + run 61 3)) 3)
+    ∷ unmarked (0 ∷ 0 ∷ []) (byBoth 0 64)
+    ∷ unmarked (0 ∷ 0 ∷ []) (byBoth 0 1)
+    ∷ unmarked (64 ∷ 64 ∷ []) (byBoth 0 65)
+    ∷ unmarked (64 ∷ 64 ∷ []) (byBoth (butFor 0) 1)
+    ∷ unmarked (0 ∷ 0 ∷ []) (byBoth (butFor 0) 0)
     ∷ []
 
 -- ---- The queue 7, and no other block anywhere: the pointers of a list, walked forward and back.
@@ -81,4 +106,4 @@ queueLines =
 
 -- The one list.
 unfoldable pub worked : List Line
-worked = byteLines ++ setLines ++ poolLines ++ grantLines ++ queueLines
+worked = byteLines ++ setLines ++ poolLines ++ grantLines ++ holeLines ++ queueLines

@@ -5,6 +5,7 @@ use mathlib.Core.Path.{_≡_}
 use Prim.Native.Nat.{ℕ, _+_, _^_}
 use lib.Dec.{eqb, leb, ltb}
 use Rattle.words.specs.Words.{if_then_else_, _implies_, standing, has}
+use Rattle.pools.specs.Pools.{SmallestHole}
 use Rattle.tables.specs.declared.Task.{Task}
 use Rattle.tables.specs.declared.Request.{Request}
 use Rattle.tables.specs.Blocks.{taskBlocks, requestBlocks, Free, Running, InEvent, InTime, InCheck, Ending, Queued, OnChannel, Done, HoldsRun, GaveBack, NotGranted, waitsIn}
@@ -50,6 +51,7 @@ module _ (s : State) (k : ℕ) where
 pub record Ranges (s : State) : Type 0 where
   pub running : leb (s .running) taskBlocks ≡ true
   pub channel : leb (s .channel) requestBlocks ≡ true
+  pub holes : leb (s .holes) SmallestHole ≡ true
   pub tasks : everyTask (taskRange s) ≡ true
   pub requests : everyRequest (requestRange s) ≡ true
 

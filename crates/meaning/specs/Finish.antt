@@ -17,12 +17,11 @@ unfoldable pub freedRequest : State → ℕ → State
 freedRequest s r = withRequest (withFreeRequests s (adding (s .freeRequests) r)) r noRequest
 
 -- ---- "frees the caller's run, if any; it isn't granted again"; "free the run and serve that core queue"
+abbrev pub unseated : State → ℕ → State
+unseated s k = withPool (withTask s k (withCore (taskAt s k) GaveBack 0)) (levelOf s k) (poolAt s (levelOf s k) - run (taskAt s k .start) (unitsOf s k))
+
 unfoldable pub givenBack : State → ℕ → State
-givenBack s k =
-    let t = taskAt s k in
-    let level = levelOf s k in
-    let freed = withPool (withTask s k (withCore t GaveBack 0)) level (poolAt s level - run t.start (unitsOf s k)) in
-    if eqb (t .core) HoldsRun then served freed level else s
+givenBack s k = if eqb (taskAt s k .core) HoldsRun then served (unseated s k) (levelOf s k) else s
 
 -- ---- Finishing.
 

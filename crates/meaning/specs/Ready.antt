@@ -5,7 +5,7 @@ use Prim.Native.Nat.{ℕ, _+_}
 use lib.Dec.{eqb, ltb}
 use Rattle.threads.specs.Threads.{hd}
 use Rattle.words.specs.Words.{if_then_else_, isEmpty}
-use Rattle.pools.specs.Pools.{run, startOf}
+use Rattle.pools.specs.Pools.{longEnough, startOf, run}
 use Rattle.tables.specs.Blocks.{Running, Ready, InCore, NotGranted, HoldsRun, moving, withCore}
 use Rattle.tables.specs.State.{State, readyQueue, coreQueue, withRunning, withPool, withTask, taskAt, poolAt, queue, levelOf, unitsOf, joining, leaving}
 
@@ -15,13 +15,13 @@ placed s k p = withTask s k (moving (s .clock) (taskAt s k) p)
 
 -- ---- Core.
 
--- the start that the task k would be given
-unfoldable pub startFor : State → ℕ → ℕ
-startFor s k = startOf (poolAt s (levelOf s k)) (unitsOf s k)
-
 -- a free run is long enough for the task k
 unfoldable pub fits : State → ℕ → Bool
-fits s k = ltb (startFor s k) 64
+fits s k = longEnough (poolAt s (levelOf s k)) (unitsOf s k)
+
+-- the start that the task k is then given, by the rule that the tables name (E8)
+unfoldable pub startFor : State → ℕ → ℕ
+startFor s k = startOf (s .holes) (poolAt s (levelOf s k)) (unitsOf s k)
 
 -- ---- "Making a task ready"
 
@@ -29,7 +29,7 @@ fits s k = ltb (startFor s k) 64
 unfoldable pub needsCore : State → ℕ → Bool
 needsCore s k = ltb 0 (unitsOf s k) && eqb (taskAt s k .core) NotGranted
 
--- "it gets the units from the lowest start at which enough are free,"
+-- "it gets the units from the lowest start at which enough are free," or, by E8, from "the start of the shortest unbroken free run that is long enough"
 unfoldable pub givenRun : State → ℕ → State
 givenRun s k =
     let a = startFor s k in

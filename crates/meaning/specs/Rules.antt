@@ -17,7 +17,7 @@ use Rattle.tables.specs.declared.Tables.{Tables}
 use Rattle.tables.specs.Blocks.{taskBlocks, requestBlocks, Free, Running, Ready, InCore, InEvent, InTime, InLink, InCheck, Ending, Queued, OnChannel, Done, HoldsRun, GaveBack, NotGranted, waitsIn}
 use Rattle.tables.specs.State.{State, eventQueue, readyQueue, coreQueue, timeQueue, channelQueue, node, taskAt, requestAt, poolAt, queue, levelOf, unitsOf, read}
 use Rattle.meaning.specs.Conditions.{undefinedIn, enough}
-use Rattle.pools.specs.Pools.{inRun}
+use Rattle.pools.specs.Pools.{inRun, SmallestHole}
 use Rattle.meaning.specs.Ready.{fits, needsCore}
 use Rattle.meaning.specs.Finish.{pendingOf, pending}
 use Rattle.meaning.specs.Channel.{channelLevel}
@@ -53,6 +53,7 @@ requestInRange q =
 unfoldable pub inRange : State → Bool
 inRange s =
     leb (s .running) taskBlocks && leb (s .channel) requestBlocks
+    && leb (s .holes) SmallestHole  -- E8
     && everyTask (λ k. taskInRange (s .directory .modules) (unitsOf s k) (taskAt s k))
     && everyRequest (λ r. requestInRange (requestAt s r))
 

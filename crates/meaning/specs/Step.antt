@@ -28,11 +28,11 @@ accepted t bytes =
 unfoldable pub stepOf : Tables → List ℕ → Step
 stepOf t bytes = let n = firstOf (refusals t bytes) in if eqb n 0 then accepted t bytes else refused t n
 
--- Loading: the loaded state of the directory, or all-zero tables.
-unfoldable pub tablesOf : List ℕ → Tables
-tablesOf image =
+-- Loading: the loaded state of the directory, in which grants follow the rule `holes` (E8), or all-zero tables.
+unfoldable pub tablesOf : ℕ → List ℕ → Tables
+tablesOf holes image =
     let l = loadOf image in
-    tabled (if eqb (refusalOf (l .outcome)) 0 then loaded (l .directory) else allZero)
+    tabled (if eqb (refusalOf (l .outcome)) 0 then loaded holes (l .directory) else allZero)
 
 -- The line that the desk writes of a step, and of the load: "(refusal, M or 0, 0)".
 unfoldable pub lineOf : Step → List ℕ

@@ -1,5 +1,5 @@
--- The start that was found and what is found at a start undo each other: `find` names the lowest start at which enough are free, or 64.
-use mathlib.Core.Path.{_≡_, refl}
+-- The start that was found and what is found at a start undo each other: `find` names the start that a grant takes, or 64.
+use mathlib.Core.Path.{_≡_}
 use mathlib.Core.Logic.{⊎-elim}
 use Prim.Native.Nat.{ℕ, _≤_, _<_}
 use native.Mathlib.Omega.{arith}
@@ -14,12 +14,12 @@ pub start-in : (a : ℕ) → a ≤ 64 → startIn (foundAt a) ≡ a
 start-in a h =
     ⊎-elim (λ (l : a < 64). rw (lt-ltb a 64 l)) (λ (m : 64 ≤ a). let e : a ≡ 64 = omega arith in rw e) (under-or-from a 64)
 
-pub found-start : (granted n : ℕ) → startIn (foundOf granted n) ≡ startOf granted n
+pub found-start : (holes granted n : ℕ) → startIn (foundOf holes granted n) ≡ startOf holes granted n
 unfolding foundOf
-found-start granted n = start-in (startOf granted n) (start-most granted n)
+found-start holes granted n = start-in (startOf holes granted n) (start-most holes granted n)
 
 pub at : (a : ℕ) → a < 64 → foundAt a ≡ At a
 at a l = rw (lt-ltb a 64 l)
 
-pub nowhere : foundAt 64 ≡ Nowhere
-nowhere = refl
+pub nowhere : (a : ℕ) → 64 ≤ a → foundAt a ≡ Nowhere
+nowhere a l = rw (le-ltb a 64 l)

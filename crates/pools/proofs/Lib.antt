@@ -1,5 +1,8 @@
 pub mod Units
+pub mod Holes
+pub mod Rules
 pub mod Starts
+pub mod Lengths
 pub mod Search
 pub mod Runs
 pub mod Marked

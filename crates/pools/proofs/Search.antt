@@ -1,8 +1,7 @@
--- The search by shifting: the set of the starts of free runs of a given length. Met with itself shifted down by b it is that of runs longer by b, and
--- its least member is the start. Nothing is asked of no units; more than 64 are nowhere free.
-use mathlib.Core.Bool.{true, _&&_}
+-- The search by shifting: the set of the starts of free runs of a given length. Met with itself shifted down by b it is that of runs longer by b. And the
+-- least of a set of starts is the start. More than 64 units are nowhere free.
+use mathlib.Core.Bool.{_&&_}
 use mathlib.Core.Path.{_≡_, sym, ap, ap₂, _∙_}
-use mathlib.Core.Logic.{⊎-elim}
 use Prim.Native.Nat.{ℕ, _+_, _-_, _/_, _^_, _≤_, _<_}
 use native.Mathlib.Omega.{arith}
 use lib.Bits.{bitAnd}
@@ -11,10 +10,11 @@ use Rattle.words.specs.Words.{has}
 use Rattle.words.proofs.Least.{least-lowest}
 use Rattle.words.proofs.Lowest.{lowest-same}
 use Rattle.words.proofs.Members.{has-meet, has-down, has-rest}
-use Rattle.words.proofs.Truth.{true-or-false}
-use Rattle.pools.specs.Pools.{freeAt, startOf}
-use Rattle.pools.proofs.Units.{free-inside, free-shown, free-one, free-joined}
-use Rattle.pools.proofs.Starts.{start-is, start-none}
+use Rattle.words.proofs.Truth.{not-so}
+use Rattle.pools.specs.Pools.{freeAt, longEnough, lowestStart, holeAt, holeOf, shortest, smallestHole, startOf}
+use Rattle.pools.proofs.Units.{free-inside, free-one, free-joined}
+use Rattle.pools.proofs.Rules.{lowest-free, lowest-given, smallest-as}
+use Rattle.pools.proofs.Starts.{start-none}
 
 -- what holds at the head of the loop: the set has the starts of free runs of the length so far
 pub record Searching (granted n found length : ℕ) : Type 0 where
@@ -42,14 +42,15 @@ module _ {g n found length : ℕ} (s : Searching g n found length) where
 
 -- ---- The start.
 
-pub start-least : (g n found : ℕ) → ((i : ℕ) → has found i ≡ freeAt g n i) → startOf g n ≡ trailingZeros 64 found
-unfolding startOf
-start-least g n found f = sym (least-lowest 64 found ∙ lowest-same (has found) (freeAt g n) 64 0 (λ i l m. f i))
+pub lowest-least : (g n found : ℕ) → ((i : ℕ) → has found i ≡ freeAt g n i) → trailingZeros 64 found ≡ lowestStart g n
+unfolding lowestStart
+lowest-least g n found f = least-lowest 64 found ∙ lowest-same (has found) (freeAt g n) 64 0 (λ i l m. f i)
 
-pub start-of-none : (g : ℕ) → startOf g 0 ≡ 0
-start-of-none g = start-is g 0 0 (omega arith) (free-shown g 0 0 (omega arith) (λ u l m. absurd (omega arith))) (λ b l. absurd (omega arith))
+pub smallest-least : (g n found : ℕ) → 1 ≤ n → ((i : ℕ) → has found i ≡ holeAt g (shortest g n) i) → trailingZeros 64 found ≡ smallestHole g n
+unfolding holeOf
+smallest-least g n found some f =
+    least-lowest 64 found ∙ lowest-same (has found) (holeAt g (shortest g n)) 64 0 (λ i l m. f i) ∙ sym (smallest-as g n some)
 
-pub start-of-many : (g n : ℕ) → 64 < n → startOf g n ≡ 64
-start-of-many g n l =
-    start-none g n
-    (λ a m. ⊎-elim (λ (h : freeAt g n a ≡ true). absurd (omega (arith, free-inside g n a h))) (λ h. h) (true-or-false (freeAt g n a)))
+pub start-of-many : (holes g n : ℕ) → 64 < n → startOf holes g n ≡ 64
+start-of-many holes g n l =
+    start-none holes g n (not-so (longEnough g n) (λ h. omega (arith, free-inside g n (lowestStart g n) (lowest-free g n (lowest-given g n h)))))

@@ -2,7 +2,7 @@
 use mathlib.Core.Bool.{true, false, not, _&&_}
 use mathlib.Core.Path.{_≡_, sym, _∙_}
 use mathlib.Core.Logic.{⊎-elim}
-use Prim.Native.Nat.{ℕ, _+_, _-_, _/_, _%_, _^_, _≤_, _<_}
+use Prim.Native.Nat.{ℕ, suc, _+_, _-_, _/_, _%_, _^_, _≤_, _<_}
 use native.Mathlib.Omega.{arith}
 use lib.Dec.{eqb, leb, ltb}
 use borrow.Author.Tests.{eq-eqb, eqb-true, le-leb, leb-true, lt-ltb, ltb-true, not-true}
@@ -49,6 +49,10 @@ pub free-part : (g n a : ℕ) → freeAt g n a ≡ true → (m b : ℕ) → a �
 free-part g n a h m b l k =
     free-shown g m b (omega (arith, free-inside g n a h)) (λ u x y. free-has g n a h u (omega arith) (omega arith))
 
+-- no units are free at every start
+pub free-none : (g a : ℕ) → a ≤ 64 → freeAt g 0 a ≡ true
+free-none g a l = free-shown g 0 a (omega arith) (λ u x y. absurd (omega arith))
+
 -- one unit
 pub free-one : (g u : ℕ) → freeAt g 1 u ≡ (ltb u 64 && not (has g u))
 free-one g u =
@@ -58,6 +62,19 @@ free-one g u =
     let l = ltb-true u 64 (and-left (ltb u 64) (not (has g u)) h) in
     let z = not-true (has g u) (and-right (ltb u 64) (not (has g u)) h) in
     free-shown g 1 u (omega arith) (λ v x y. let e : u ≡ v = omega arith in rw e at z))
+
+-- a free run and the free unit behind it, or before it, are one that is longer by one
+module _ (g n a : ℕ) (h : freeAt g n a ≡ true) where
+  pub free-behind : freeAt g 1 (a + n) ≡ true → freeAt g (suc n) a ≡ true
+  free-behind e =
+      free-shown g (suc n) a (omega (arith, free-inside g 1 (a + n) e))
+      (λ u x y.
+      ⊎-elim (λ (l : u < a + n). free-has g n a h u x l) (λ (l : a + n ≤ u). free-has g 1 (a + n) e u l (omega arith)) (under-or-from u (a + n)))
+
+  pub free-before : (b : ℕ) → suc b ≡ a → freeAt g 1 b ≡ true → freeAt g (suc n) b ≡ true
+  free-before b s e =
+      free-shown g (suc n) b (omega (arith, free-inside g n a h))
+      (λ u x y. ⊎-elim (λ (l : u < a). free-has g 1 b e u x (omega arith)) (λ (l : a ≤ u). free-has g n a h u l (omega arith)) (under-or-from u a))
 
 -- two free runs of a units, b apart and b at most a, are one of a + b
 module _ (g a b i : ℕ) (short : b ≤ a) where

@@ -1,6 +1,7 @@
 -- ==== Inside: words for contracts below the public face. What the executive, its library and the demands claim does not rest on them.
--- Document 01, 'Conditions and getting ready': "no free run is long enough; otherwise it gets the units from the lowest start at which enough are free".
+-- Document 01, 'Conditions and getting ready': "no free run is long enough; otherwise it gets the units from" a start, by the rule that the tables name.
 use Prim.Native.Nat.{ℕ}
+use lib.Count.{trailingZeros}
 use lib.Dec.{ltb}
 use Rattle.words.specs.Words.{if_then_else_}
 use Rattle.pools.specs.declared.Found.{Found}
@@ -16,6 +17,10 @@ startIn Nowhere = 64
 abbrev pub foundAt : ℕ → Found
 foundAt start = if ltb start 64 then At start else Nowhere
 
--- where n units are to be had; no units at the start 0, more than 64 nowhere
-unfoldable pub foundOf : ℕ → ℕ → Found
-foundOf granted n = foundAt (startOf granted n)
+-- the lowest of a set of starts
+abbrev pub foundIn : ℕ → Found
+foundIn starts = foundAt (trailingZeros 64 starts)
+
+-- where a grant takes n units, by the rule; no units at the start 0, more than 64 nowhere
+unfoldable pub foundOf : ℕ → ℕ → ℕ → Found
+foundOf holes granted n = foundAt (startOf holes granted n)

@@ -141,6 +141,7 @@ module _ (s : State) where
       λ directory.
       λ running.
       λ channel.
+      λ holes.
       λ on.
       λ on-signalled.
       λ signalled.
@@ -164,6 +165,7 @@ module _ (s : State) where
                   (record {
                     running = running;
                     channel = channel;
+                    holes = holes;
                     tasks = to-all (taskRange s) taskBlocks (λ k l h. t k l h .range);
                     requests = to-all (requestRange s) requestBlocks (λ k l h. r k l h .range);
                   });

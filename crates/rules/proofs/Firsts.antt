@@ -5,16 +5,16 @@ use mathlib.Core.List.{List, [], _∷_}
 use Prim.Native.Nat.{ℕ, _+_, _≤_, _<_}
 use native.Mathlib.Omega.{arith}
 use lib.ListN.{getD}
-use lib.Dec.{eqb, ltb}
+use lib.Dec.{eqb}
 use borrow.Author.Tests.{eq-eqb, ne-eqb}
 use Rattle.threads.specs.Threads.{hd, count, QUEUES}
 use Rattle.threads.proofs.Lists.{count-hit}
 use Rattle.threads.proofs.Read.{first-of}
 use Rattle.words.specs.Words.{_implies_, isEmpty, oneTo, allOf}
-use Rattle.pools.specs.Pools.{startOf}
+use Rattle.pools.specs.Pools.{longEnough}
 use Rattle.tables.specs.declared.Tables.{Tables}
 use Rattle.tables.specs.State.{State, coreQueue, taskAt, poolAt, queue, levelOf, unitsOf, read}
-use Rattle.meaning.specs.Ready.{startFor, fits}
+use Rattle.meaning.specs.Ready.{fits}
 use Rattle.meaning.specs.Rules.{idleOnlyIfNoneReady, channelBusy}
 use Rattle.rules.specs.Orderly.{Orderly}
 use Rattle.rules.proofs.Places.{in-queue, tasks-of, module-low}
@@ -70,11 +70,11 @@ module _ (t : Tables) (o : Orderly t) where
 
   -- the test of the code, of who waits first
   abbrev waits : ℕ → ℕ → Bool
-  waits level k = eqb k 0 || not (ltb (startOf (poolAt s level) (unitsOf s k)) 64)
+  waits level k = eqb k 0 || not (longEnough (poolAt s level) (unitsOf s k))
 
   turn : (level k : ℕ) (l : List ℕ) → 1 ≤ level → level ≤ 3 → queue s (level + 3) ≡ l → k ≡ hd l
       → waits level k ≡ (not (isEmpty l) implies not (fits s (hd l)))
-  unfolding fits startFor
+  unfolding fits
   turn level k [] l h e f = rw (eq-eqb k 0 f)
   turn level k (a ∷ m) l h e f =
       let c : 1 ≤ count a (queue s (level + 3)) = omega (arith, ap (count a) e, count-hit a a m refl) in

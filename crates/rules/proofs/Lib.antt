@@ -3,7 +3,6 @@ pub mod Places
 pub mod Waiters
 pub mod Climbing
 pub mod Firsts
-pub mod Fitting
 pub mod Tally
 pub mod Chains
 pub mod Children

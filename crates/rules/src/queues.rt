@@ -1,12 +1,11 @@
 // The rules over queues, of tables whose pointers, fields and places are right.
 ghost use mathlib.Core.Bool.{not, _&&_, _||_};
 ghost use mathlib.Core.Path.{_≡_};
-ghost use lib.Dec.{eqb, ltb};
-ghost use Rattle.pools.specs.Pools.{startOf};
+ghost use lib.Dec.{eqb};
+ghost use Rattle.pools.specs.Pools.{longEnough};
 ghost use Rattle.tables.specs.State.{read};
 ghost use Rattle.meaning.specs.Rules.{idleOnlyIfNoneReady, channelBusy, coreWaits, queuesInOrder};
 ghost use Rattle.rules.specs.Orderly.{Orderly};
-use pools::Found;
 use tables::Tables;
 
 // "The processor is idle only if nothing is ready", of who runs and the first ready of each level.
@@ -25,15 +24,12 @@ fn channel_busy(channel: u8, first: u8) -> bool
 
 // "no first waiter for core would fit", of the first waiter of a level, its pool and the units that the waiter needs.
 fn core_waits(k: u8, granted: u64, units: u8) -> bool
-    ensures { λ r. ⌜ r ≡ (eqb k 0 || not (ltb (startOf granted units) 64)) ⌝ }
+    ensures { λ r. ⌜ r ≡ (eqb k 0 || not (longEnough granted units)) ⌝ }
 {
     if k == 0 {
         return true;
     }
-    match pools::find(granted, units) {
-        Found::At(_) => false,
-        Found::Nowhere => true,
-    }
+    !pools::long_enough(granted, units)
 }
 
 // The three rules above, "the time queue by time" and "the channel queue by level", in one function: it takes the tables once.

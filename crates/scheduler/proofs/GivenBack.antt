@@ -10,9 +10,9 @@ use Rattle.tables.specs.declared.Task.{Task}
 use Rattle.tables.specs.Blocks.{HoldsRun, GaveBack, noTask, withCore}
 use Rattle.tables.specs.State.{State, withPool, withTask, taskAt, poolAt, entryFor}
 use Rattle.meaning.specs.Ready.{served}
-use Rattle.meaning.specs.Finish.{givenBack}
+use Rattle.meaning.specs.Finish.{unseated, givenBack}
 use Rattle.lawful.proofs.Blocks.Sums.{field-kept}
-use Rattle.scheduler.specs.Core.{unseated, Waiters, Holder}
+use Rattle.scheduler.specs.Core.{Waiters, Holder}
 use Rattle.scheduler.proofs.Served.{waiters-kept}
 
 pub keeps-core : (s : State) (k : ℕ) → taskAt s k .core ≢ HoldsRun → givenBack s k ≡ s
@@ -26,14 +26,12 @@ module _ (s : State) (k : ℕ) {e : Entry} (h : e ≡ entryFor s k) where
 
   pub unseated-as : {p : ℕ} → p ≡ poolAt s (e .level) - run (taskAt s k .start) (e .units)
       → withPool (withTask s k (withCore (taskAt s k) GaveBack 0)) (e .level) p ≡ unseated s k
-  unfolding unseated
   unseated-as f = rw (f, h)
 
   pub gives-core : taskAt s k .core ≡ HoldsRun → givenBack s k ≡ served (unseated s k) (e .level)
-  unfolding unseated givenBack
+  unfolding givenBack
   gives-core c = rw (eq-eqb _ _ c, h)
 
   pub unseated-waiters : Holder s k → Waiters (unseated s k) (e .level)
-  unfolding unseated
   unseated-waiters g =
       waiters-kept s (unseated s k) (e .level) refl (λ y. field-kept (λ (x : Task). x .program) (s .tasks) k y _ noTask refl) (λ y c. c) (rw h (g .waiters))

@@ -1,37 +1,22 @@
 -- Laws of granting core and of getting ready, case by case.
 use mathlib.Core.Bool.{Bool, true, false, cond, _&&_}
 use mathlib.Core.Path.{_≡_, refl, sym, ap, ap₂, _∙_}
-use Prim.Native.Nat.{ℕ, _+_, _≤_, _<_}
+use Prim.Native.Nat.{ℕ, _+_, _<_}
 use native.Mathlib.Omega.{arith}
 use lib.Dec.{eqb, ltb}
-use borrow.Author.Tests.{lt-ltb, le-ltb, ltb-false}
 use Rattle.threads.specs.Threads.{counts}
 use Rattle.words.specs.Words.{isEmpty}
 use Rattle.pools.specs.declared.Found.the-variants.{At, Nowhere}
 use Rattle.pools.specs.Pools.{run, startOf}
 use Rattle.pools.specs.Runs.{FreeRun}
 use Rattle.pools.specs.Find.{foundOf}
-use Rattle.pools.proofs.Starts.{found-at, at-start, found-run}
+use Rattle.pools.proofs.Starts.{at-start, at-long, nowhere-long, start-run}
 use Rattle.image.specs.declared.Entry.{Entry}
 use Rattle.tables.specs.Blocks.{Ready, InCore, NotGranted, HoldsRun, withCore}
 use Rattle.tables.specs.State.{State, coreQueue, withPool, withTask, taskAt, poolAt, queue, entryFor, levelOf, unitsOf, joining}
 use Rattle.meaning.specs.Ready.{placed, startFor, fits, needsCore, givenRun, readied, awaitsCore, madeReady}
 use Rattle.scheduler.specs.Core.{seatOf, Granting}
 use Rattle.lawful.proofs.Chained.Framed.{given-level}
-
--- ---- The search.
-
-pub nowhere-start : (g n : ℕ) → foundOf g n ≡ Nowhere → 64 ≤ startOf g n
-unfolding foundOf
-nowhere-start g n e = go (ltb (startOf g n) 64) refl e
-  where
-    go : (b : Bool) → ltb (startOf g n) 64 ≡ b → cond (ltb (startOf g n) 64) (At (startOf g n)) Nowhere ≡ Nowhere → 64 ≤ startOf g n
-    go true f h = let z : At (startOf g n) ≡ Nowhere = rw f at h in let y : _≡_ {A = ℕ} 0 1 = cc in absurd (omega arith)
-    go false f h = ltb-false (startOf g n) 64 f
-
--- what the search finds is a free run
-start-run : (g n a : ℕ) → a ≡ startOf g n → a < 64 → FreeRun g a n
-start-run g n a e l = found-run g n a (found-at g n a (sym e) l)
 
 -- ---- Getting ready, by the entry that the code has in hand
 module _ (s : State) (k : ℕ) {e : Entry} (h : e ≡ entryFor s k) where
@@ -45,9 +30,9 @@ module _ (s : State) (k : ℕ) {e : Entry} (h : e ≡ entryFor s k) where
   unfolding startFor seatOf
   seat-start {a} f = go (isEmpty (queue s (coreQueue (levelOf s k)))) (rw h at f)
     where
-      go : (b : Bool) → cond b (foundOf (poolAt s (levelOf s k)) (unitsOf s k)) Nowhere ≡ At a
-          → (a ≡ startOf (poolAt s (levelOf s k)) (unitsOf s k)) × (a < 64)
-      go true g = let f = at-start (poolAt s (levelOf s k)) (unitsOf s k) a g in (sym (f .0), f .1)
+      go : (b : Bool) → cond b (foundOf (s .holes) (poolAt s (levelOf s k)) (unitsOf s k)) Nowhere ≡ At a
+          → (a ≡ startOf (s .holes) (poolAt s (levelOf s k)) (unitsOf s k)) × (a < 64)
+      go true g = let f = at-start (s .holes) (poolAt s (levelOf s k)) (unitsOf s k) a g in (sym (f .0), f .1)
       go false g = let y : _≡_ {A = ℕ} 0 1 = cc in absurd (omega arith)
 
   pub ready-now : needsCore s k ≡ false → madeReady s k ≡ joining (placed s k Ready) (e .level) k
@@ -55,21 +40,21 @@ module _ (s : State) (k : ℕ) {e : Entry} (h : e ≡ entryFor s k) where
   ready-now n = rw (n, h)
 
   pub ready-later : needsCore s k ≡ true → seatOf s (e .level) (e .units) ≡ Nowhere → madeReady s k ≡ joining (placed s k InCore) (coreQueue (e .level)) k
-  unfolding madeReady awaitsCore seatOf fits startFor
+  unfolding madeReady awaitsCore seatOf fits
   ready-later n f = rw h (go (isEmpty (queue s (coreQueue (levelOf s k)))) refl (rw h at f))
     where
-      go : (b : Bool) → isEmpty (queue s (coreQueue (levelOf s k))) ≡ b → cond b (foundOf (poolAt s (levelOf s k)) (unitsOf s k)) Nowhere ≡ Nowhere
+      go : (b : Bool) → isEmpty (queue s (coreQueue (levelOf s k))) ≡ b → cond b (foundOf (s .holes) (poolAt s (levelOf s k)) (unitsOf s k)) Nowhere ≡ Nowhere
           → madeReady s k ≡ joining (placed s k InCore) (coreQueue (levelOf s k)) k
-      go true q g = rw (n, q, le-ltb _ _ (nowhere-start (poolAt s (levelOf s k)) (unitsOf s k) g))
+      go true q g = rw (n, q, nowhere-long (s .holes) (poolAt s (levelOf s k)) (unitsOf s k) g)
       go false q g = rw (n, q)
 
   pub ready-seated : {a : ℕ} → needsCore s k ≡ true → seatOf s (e .level) (e .units) ≡ At a → madeReady s k ≡ joining (placed (givenRun s k) k Ready) (e .level) k
   unfolding madeReady readied seatOf fits
   ready-seated {a} n f = rw h (go (isEmpty (queue s (coreQueue (levelOf s k)))) refl (rw h at f))
     where
-      go : (b : Bool) → isEmpty (queue s (coreQueue (levelOf s k))) ≡ b → cond b (foundOf (poolAt s (levelOf s k)) (unitsOf s k)) Nowhere ≡ At a
+      go : (b : Bool) → isEmpty (queue s (coreQueue (levelOf s k))) ≡ b → cond b (foundOf (s .holes) (poolAt s (levelOf s k)) (unitsOf s k)) Nowhere ≡ At a
           → madeReady s k ≡ joining (placed (givenRun s k) k Ready) (levelOf s k) k
-      go true q g = let i = seat-start f in rw (n, q, lt-ltb (startFor s k) 64 (omega (arith, i)), given-level s k)
+      go true q g = rw (n, q, at-long (s .holes) (poolAt s (levelOf s k)) (unitsOf s k) a g, given-level s k)
       go false q g = let y : _≡_ {A = ℕ} 0 1 = cc in absurd (omega arith)
 
 -- ---- Granting.
@@ -78,7 +63,7 @@ module _ (s : State) {k level n a : ℕ} (g : Granting s k level n a) where
   pub grant-free : FreeRun (poolAt s level) a n
   unfolding startFor
   grant-free =
-      start-run (poolAt s level) n a (g .own-start ∙ ap₂ (λ (x y : ℕ). startOf (poolAt s x) y) (sym (g .own-level)) (sym (g .own-units))) (g .start)
+      start-run (s .holes) (poolAt s level) n a (ap₂ (λ (x y : ℕ). startOf (s .holes) (poolAt s x) y) (g .own-level) (g .own-units) ∙ sym (g .own-start)) (g .start)
 
   -- the state after a grant, by the numbers that the code has in hand
   pub granted-as : withPool (withTask s k (withCore (taskAt s k) HoldsRun a)) level (poolAt s level + run a n) ≡ givenRun s k

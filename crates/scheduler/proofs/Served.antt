@@ -1,4 +1,5 @@
 -- Laws of serving a core queue: what seating the first of it leaves, and the loop's invariant, `Turn`.
+use mathlib.Core.Bool.{true, false}
 use mathlib.Core.Path.{_≡_, refl, sym, ap, ap₂, _∙_}
 use mathlib.Core.Logic.{_≢_}
 use mathlib.Core.List.{List, [], _∷_, tail}
@@ -6,7 +7,6 @@ use Prim.Native.Nat.{ℕ, _≤_, _<_}
 use native.Mathlib.Omega.{arith}
 use lib.ListN.{length}
 use lib.Seq.{getD-set-same, getD-set-other}
-use borrow.Author.Tests.{lt-ltb, le-ltb}
 use Rattle.threads.specs.Threads.{hd, count, without, Sound, Member, QUEUES}
 use Rattle.threads.proofs.Lists.{count-nil, count-append, count-hit, without-at}
 use Rattle.tables.proofs.Held.{first-split, first-empty, first-member, queues-nine}
@@ -19,13 +19,12 @@ use Rattle.tables.specs.State.{State, coreQueue, taskAt, poolAt, queue, levelOf
 use Rattle.tables.specs.Held.{Shows}
 use Rattle.meaning.specs.Ready.{placed, startFor, fits, givenRun, readied, seated, serving, served}
 use Rattle.pools.specs.declared.Found.the-variants.{At, Nowhere}
-use Rattle.pools.specs.Pools.{startOf}
+use Rattle.pools.specs.Pools.{longEnough, startOf}
 use Rattle.pools.specs.Find.{foundOf}
-use Rattle.pools.proofs.Starts.{at-start}
+use Rattle.pools.proofs.Starts.{at-start, at-long, nowhere-long}
 use Rattle.lawful.proofs.Blocks.Sums.{field-kept}
 use Rattle.scheduler.specs.Core.{Waiter, Waiters}
 use Rattle.lawful.proofs.Chained.Framed.{given-level}
-use Rattle.scheduler.proofs.Granted.{nowhere-start}
 
 pub seated-as : (s : State) (q k : ℕ) → joining (placed (givenRun (leaving s q k) k) k Ready) (levelOf s k) k ≡ seated s q k
 unfolding seated readied
@@ -83,15 +82,15 @@ module _ (s : State) (level k : ℕ) (l : List ℕ) (nine : length (s .queues) �
       waiters-kept s (seated s (coreQueue level) k) level (directory-kept s (coreQueue level) k) (program-kept s (coreQueue level) k)
       (λ y h. let c = rw seated-queue at h in rw e (omega (arith, c, count-append y (k ∷ []) l))) w
 
-  pub serves : startFor s k < 64 → served s level ≡ served (seated s (coreQueue level) k) level
-  unfolding served serving fits
+  pub serves : fits s k ≡ true → served s level ≡ served (seated s (coreQueue level) k) level
+  unfolding served serving
   serves f =
       ap (λ (m : List ℕ). serving (coreQueue level) m s) e
-      ∙ rw (lt-ltb _ _ f) (ap (λ (m : List ℕ). serving (coreQueue level) m (seated s (coreQueue level) k)) (sym seated-queue))
+      ∙ rw f (ap (λ (m : List ℕ). serving (coreQueue level) m (seated s (coreQueue level) k)) (sym seated-queue))
 
-  pub stops : 64 ≤ startFor s k → served s level ≡ s
-  unfolding served serving fits
-  stops f = ap (λ (m : List ℕ). serving (coreQueue level) m s) e ∙ rw (le-ltb _ _ f)
+  pub stops : fits s k ≡ false → served s level ≡ s
+  unfolding served serving
+  stops f = ap (λ (m : List ℕ). serving (coreQueue level) m s) e ∙ rw f
 
 pub serves-none : (s : State) (level : ℕ) → queue s (coreQueue level) ≡ [] → served s level ≡ s
 unfolding served serving
@@ -127,23 +126,28 @@ module _ {t : Tables} {level : ℕ} {u : Tables} {k : ℕ} (i : Turn t level u k
     turn-member = first-member (i .sound) (omega (arith, i .waiters .worst)) (i .first) n
 
     -- what the search gives is the start of the first
-    pub turn-at : {m a : ℕ} → m ≡ unitsOf (read u) k → foundOf (poolAt (read u) level) m ≡ At a → (a ≡ startFor (read u) k) × (a < 64)
+    pub turn-at : {m a : ℕ} → m ≡ unitsOf (read u) k → foundOf (u .holes) (poolAt (read u) level) m ≡ At a → (a ≡ startFor (read u) k) × (a < 64)
     unfolding startFor
     turn-at {m} {a} e f =
-        let h = at-start (poolAt (read u) level) m a f in
-        (sym (h .0) ∙ ap₂ (λ (x y : ℕ). startOf (poolAt (read u) x) y) (sym (turn-waiter .own)) e, h .1)
+        let h = at-start (u .holes) (poolAt (read u) level) m a f in
+        (sym (h .0) ∙ ap₂ (λ (x y : ℕ). startOf (u .holes) (poolAt (read u) x) y) (sym (turn-waiter .own)) e, h .1)
 
-    turn-full : {m : ℕ} → m ≡ unitsOf (read u) k → foundOf (poolAt (read u) level) m ≡ Nowhere → 64 ≤ startFor (read u) k
-    unfolding startFor
-    turn-full {m} e f =
-        let h = ap₂ (λ (x y : ℕ). startOf (poolAt (read u) x) y) (sym (turn-waiter .own)) e in
-        omega (arith, nowhere-start (poolAt (read u) level) m f, h)
+    -- and a free run is long enough for the first, or none is
+    turn-long : {m : ℕ} → m ≡ unitsOf (read u) k → fits (read u) k ≡ longEnough (poolAt (read u) level) m
+    unfolding fits
+    turn-long {m} e = ap₂ (λ (x y : ℕ). longEnough (poolAt (read u) x) y) (turn-waiter .own) (sym e)
 
-    pub turn-stop : {m : ℕ} → m ≡ unitsOf (read u) k → foundOf (poolAt (read u) level) m ≡ Nowhere → Shows u (served (read t) level)
+    pub turn-fits : {m a : ℕ} → m ≡ unitsOf (read u) k → foundOf (u .holes) (poolAt (read u) level) m ≡ At a → fits (read u) k ≡ true
+    turn-fits {m} {a} e f = turn-long e ∙ at-long (u .holes) (poolAt (read u) level) m a f
+
+    turn-full : {m : ℕ} → m ≡ unitsOf (read u) k → foundOf (u .holes) (poolAt (read u) level) m ≡ Nowhere → fits (read u) k ≡ false
+    turn-full {m} e f = turn-long e ∙ nowhere-long (u .holes) (poolAt (read u) level) m f
+
+    pub turn-stop : {m : ℕ} → m ≡ unitsOf (read u) k → foundOf (u .holes) (poolAt (read u) level) m ≡ Nowhere → Shows u (served (read t) level)
     turn-stop e f = record { sound = i .sound; reads = sym (stops (read u) level k _ nine (i .waiters) split (turn-full e f)) ∙ i .same }
 
     module _ {v : Tables} (h : Shows v (seated (read u) (coreQueue level) k)) where
-      pub turn-next : {j : ℕ} → startFor (read u) k < 64 → j ≡ hd (queue (read v) (coreQueue level)) → Turn t level v j
+      pub turn-next : {j : ℕ} → fits (read u) k ≡ true → j ≡ hd (queue (read v) (coreQueue level)) → Turn t level v j
       turn-next f e =
           record {
             sound = h .sound;

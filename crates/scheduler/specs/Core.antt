@@ -1,22 +1,21 @@
 -- Where a newcomer gets its core; what granting core, serving a core queue and giving core back ask.
 use mathlib.Core.Path.{_≡_}
-use Prim.Native.Nat.{ℕ, _-_, _≤_, _<_, suc}
+use Prim.Native.Nat.{ℕ, _≤_, _<_, suc}
 use Rattle.threads.specs.Threads.{count, Member}
 use Rattle.words.specs.Words.{if_then_else_, isEmpty}
 use Rattle.pools.specs.declared.Found.{Found}
-use Rattle.pools.specs.Pools.{run}
 use Rattle.pools.specs.Find.{foundAt, foundOf}
 use Rattle.pools.specs.Runs.{HeldRun}
 use Rattle.tables.specs.declared.Tables.{Tables}
-use Rattle.tables.specs.Blocks.{HoldsRun, GaveBack, withCore, taskBlocks}
-use Rattle.tables.specs.State.{State, coreQueue, withPool, withTask, taskAt, poolAt, queue, levelOf, unitsOf, read}
+use Rattle.tables.specs.Blocks.{HoldsRun, taskBlocks}
+use Rattle.tables.specs.State.{State, coreQueue, taskAt, poolAt, queue, levelOf, unitsOf, read}
 use Rattle.meaning.specs.Ready.{startFor}
 
 -- "when that queue isn't empty or no free run is long enough": nowhere
 unfoldable pub seatOf : State → ℕ → ℕ → Found
-seatOf s level n = if isEmpty (queue s (coreQueue level)) then foundOf (poolAt s level) n else foundAt 64
+seatOf s level n = if isEmpty (queue s (coreQueue level)) then foundOf (s .holes) (poolAt s level) n else foundAt 64
 
--- the task k can be given n units of the level's core from a on: they are its own number, and a is the lowest start at which they are free
+-- the task k can be given n units of the level's core from a on: they are its own number, and a is the start that the rule of the tables gives
 pub record Granting (s : State) (k level n a : ℕ) : Type 0 where
   pub low : k < suc taskBlocks
   pub worst : level ≤ 3
@@ -47,12 +46,6 @@ pub record Seating (t : Tables) (level k n a : ℕ) : Type 0 where
   pub start : a < 64
   pub own-units : n ≡ unitsOf (read t) k
   pub own-start : a ≡ startFor (read t) k
-
--- "free the run": the units of the task k are free, and it gave them back
-unfoldable pub unseated : State → ℕ → State
-unseated s k =
-    let t = taskAt s k in
-    withPool (withTask s k (withCore t GaveBack 0)) (levelOf s k) (poolAt s (levelOf s k) - run t.start (unitsOf s k))
 
 -- what giving the task k's core back asks: that its run, if it holds one, is granted, and that its level's core queue is of waiters
 pub record Holder (s : State) (k : ℕ) : Type 0 where

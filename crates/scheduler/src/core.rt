@@ -30,7 +30,7 @@ pub fn seat(t: Tables, level: u8, n: u8) -> Found
     if blocks::first_of(t, level + LEVELS) != 0 {
         return Found::Nowhere;
     }
-    pools::find(t.pools[level as usize], n)
+    pools::find(t.holes, t.pools[level as usize], n)
 }
 
 // The task k is granted its n units of core, from a on.

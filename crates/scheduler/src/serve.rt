@@ -5,8 +5,8 @@ ghost use Rattle.tables.specs.State.{read, coreQueue, taskAt};
 ghost use Rattle.tables.specs.Blocks.{HoldsRun};
 ghost use Rattle.tables.specs.Held.{Shows};
 ghost use Rattle.meaning.specs.Ready.{seated, served};
-ghost use Rattle.meaning.specs.Finish.{givenBack};
-ghost use Rattle.scheduler.specs.Core.{Waiters, Seating, Holder, unseated};
+ghost use Rattle.meaning.specs.Finish.{unseated, givenBack};
+ghost use Rattle.scheduler.specs.Core.{Waiters, Seating, Holder};
 use crate::core;
 use crate::ready;
 use pools::Found;
@@ -37,7 +37,7 @@ pub fn serve(t: Tables, level: u8) -> Tables
     while k != 0 {
         let e = blocks::entry_of(u, k);
         let n = e.units;
-        let found = pools::find(u.pools[level as usize], n);
+        let found = pools::find(u.holes, u.pools[level as usize], n);
         let Found::At(a) = found else {
             return u;
         };

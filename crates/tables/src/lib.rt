@@ -48,6 +48,7 @@ pub struct Request {
 // on: the events that are on. signalled: those of which a SIGNAL, on or off, has been accepted since the load.
 // pools: the granted units of each level, one bit each. freeTasks, freeRequests: the free blocks, bit k for block k.
 // running, channel: the block that runs, and the one on the channel; 0 for none.
+// holes: the rule by which core is granted, a number of `pools`. It is as wide as leaves no byte behind it.
 #[repr(C)]
 pub struct Tables {
     pub directory: Directory,
@@ -62,25 +63,26 @@ pub struct Tables {
     pub running: u8,
     pub channel: u8,
     pub threads: Threads,
+    pub holes: u64,
 }
 
-// The tables of a directory, just loaded: no tasks, no event on and none signalled, clock 0.
-pub fn loaded(directory: Directory) -> Tables
-    ensures { λ r. ⌜ r ≡ tabled (loaded directory) ⌝ }
+// The tables of a directory, just loaded: no tasks, no event on and none signalled, clock 0. Grants follow the rule that is given.
+pub fn loaded(holes: u64, directory: Directory) -> Tables
+    ensures { λ r. ⌜ r ≡ tabled (loaded holes directory) ⌝ }
 {
-    unused(directory, 33554430, 131070)
+    unused(directory, holes, 33554430, 131070)
 }
 
 // The tables that a refused load gives.
 pub fn all_zero() -> Tables
     ensures { λ r. ⌜ r ≡ tabled allZero ⌝ }
 {
-    unused(image::entries::none(), 0, 0)
+    unused(image::entries::none(), 0, 0, 0)
 }
 
-// The tables of a directory in which nothing is used, with the blocks of two sets free.
-fn unused(directory: Directory, freeTasks: u32, freeRequests: u32) -> Tables
-    ensures { λ r. ⌜ r ≡ tabled (unused directory freeTasks freeRequests) ⌝ }
+// The tables of a directory in which nothing is used, with the blocks of two sets free, in which grants follow a rule.
+fn unused(directory: Directory, holes: u64, freeTasks: u32, freeRequests: u32) -> Tables
+    ensures { λ r. ⌜ r ≡ tabled (unused directory holes freeTasks freeRequests) ⌝ }
 {
     let task = Task {
         events: 0,
@@ -115,5 +117,6 @@ fn unused(directory: Directory, freeTasks: u32, freeRequests: u32) -> Tables
         running: 0,
         channel: 0,
         threads: threads,
+        holes: holes,
     }
 }

@@ -1,13 +1,13 @@
 -- How a loop over 1, 2, .., n gathers a test: that all of them pass, that some does. By one turn more.
 use mathlib.Core.Bool.{Bool, true, false, _&&_, _||_}
 use mathlib.Core.Path.{_≡_, refl, sym, ap, ap₂, _∙_}
-use mathlib.Core.List.{List, [], _∷_, _++_}
+use mathlib.Core.List.{[], _∷_}
 use Prim.Native.Nat.{ℕ, suc, _+_, _≤_}
 use native.Mathlib.Numerals.{add-one}
 use native.Mathlib.Omega.{arith}
 use Rattle.words.specs.Words.{oneTo, allOf, someOf}
-use Rattle.words.proofs.Truth.{and-true, or-assoc, or-none}
-use Rattle.words.proofs.Lists.{all-append}
+use Rattle.words.proofs.Truth.{and-true, or-none}
+use Rattle.words.proofs.Lists.{all-append, some-append}
 
 -- a loop that gathers a test over 1, 2, .., n, with no early exit: `ok = ok & p(i)`
 pub gather-start : (p : ℕ → Bool) → true ≡ allOf p (oneTo 0)
@@ -24,11 +24,6 @@ pub gather-end : (p : ℕ → Bool) (n i : ℕ) (b : Bool) → b ≡ allOf p (on
 gather-end p n i b e h k = let z : i ≡ n = omega arith in e ∙ ap (λ (n : ℕ). allOf p (oneTo n)) z
 
 -- ---- `someOf`, as the loop goes on
-
-some-append : (p : ℕ → Bool) (l m : List ℕ) → someOf p (l ++ m) ≡ (someOf p l || someOf p m)
-unfolding someOf
-some-append p [] m = refl
-some-append p (a ∷ l) m = ap (λ (b : Bool). p a || b) (some-append p l m) ∙ or-assoc (p a) _ _
 
 pub some-start : (p : ℕ → Bool) → false ≡ someOf p (oneTo 0)
 unfolding someOf oneTo

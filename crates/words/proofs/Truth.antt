@@ -15,6 +15,11 @@ same-truth true b f g = sym (f refl)
 same-truth false true f g = g refl
 same-truth false false f g = refl
 
+-- a test that cannot hold does not
+pub not-so : (b : Bool) → (b ≡ true → ⊥) → b ≡ false
+not-so true f = absurd (f refl)
+not-so false f = refl
+
 pub not-not : (b : Bool) → not (not b) ≡ b
 not-not true = refl
 not-not false = refl
@@ -49,6 +54,10 @@ fails-right false b e = refl
 pub or-assoc : (a b c : Bool) → (a || (b || c)) ≡ (a || b || c)
 or-assoc true b c = refl
 or-assoc false b c = refl
+
+pub or-true : (a : Bool) → (a || true) ≡ true
+or-true true = refl
+or-true false = refl
 
 pub or-none : (a : Bool) → (a || false) ≡ a
 or-none true = refl

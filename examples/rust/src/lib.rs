@@ -5,11 +5,13 @@
 #![deny(unsafe_op_in_unsafe_fn)]
 
 mod event;
+mod holes;
 mod place;
 mod refusal;
 mod tables;
 
 pub use event::Event;
+pub use holes::Holes;
 pub use place::Place;
 pub use refusal::Refusal;
 pub use tables::{Answer, Directory, Entry, Request, Tables, Task, Threads, TABLES_LENGTH, TABLES_VERSION};
@@ -18,6 +20,7 @@ extern "C" {
     fn khilzurgee_image_check(bytes: *const u8, length: usize) -> u8;
     fn khilzurgee_block_check(block: *const u8, length: usize) -> u16;
     fn khilzurgee_load(tables: *mut Tables, image: *const u8, length: usize) -> Answer;
+    fn khilzurgee_load_lowest(tables: *mut Tables, image: *const u8, length: usize) -> Answer;
     fn khilzurgee_advance(tables: *mut Tables, call: *const u8, length: usize) -> Answer;
 }
 
@@ -44,13 +47,41 @@ pub struct Station {
 }
 
 impl Station {
-    /// Loads an image, from any bytes. A refused one gives the number of its refusal, 1 to 7.
+    /// Loads an image, from any bytes. A refused one gives the number of its refusal, 1 to 7. Grants go by the smallest hole.
     pub fn load(image: &[u8]) -> Result<Station, u8> {
+        Station::load_by(Holes::SmallestHole, image)
+    }
+
+    /// The old program, for recordings that were made before document 02's E8: the same load, but grants go by the lowest start. All else is the same.
+    ///
+    /// ```
+    /// use khilzurgee::{block_check, Holes, Station};
+    ///
+    /// let mut image = [0; 512];
+    /// image[..3].copy_from_slice(&[1, 1, 1]); // form 1, one module, N 1
+    /// image[16..18].copy_from_slice(&[2, 8]); // its level and its units
+    /// let check = block_check(&image).expect("512 bytes");
+    /// image[510..].copy_from_slice(&check.to_le_bytes());
+    ///
+    /// let (new, old) = (Station::load(&image)?, Station::load_lowest(&image)?);
+    /// assert_eq!(new.tables().grants_by(), Some(Holes::SmallestHole));
+    /// assert_eq!(old.tables().grants_by(), Some(Holes::LowestStart));
+    /// # Ok::<(), u8>(())
+    /// ```
+    pub fn load_lowest(image: &[u8]) -> Result<Station, u8> {
+        Station::load_by(Holes::LowestStart, image)
+    }
+
+    fn load_by(holes: Holes, image: &[u8]) -> Result<Station, u8> {
         // SAFETY: the tables are whole numbers and arrays of them, so all bits zero is a value of theirs.
         let mut tables: Tables = unsafe { std::mem::zeroed() };
-        // SAFETY: the tables are a local that nothing else refers to, and the slice lies outside them. The function reads the slice, writes the tables,
-        // and keeps neither pointer.
-        let answer = unsafe { khilzurgee_load(&mut tables, image.as_ptr(), image.len()) };
+        let load = match holes {
+            Holes::LowestStart => khilzurgee_load_lowest,
+            Holes::SmallestHole => khilzurgee_load,
+        };
+        // SAFETY: the tables are a local that nothing else refers to, and the slice lies outside them. Each of the two functions reads the slice, writes the
+        // tables, and keeps neither pointer.
+        let answer = unsafe { load(&mut tables, image.as_ptr(), image.len()) };
         match answer.refusal {
             0 => Ok(Station { tables }),
             refusal => Err(refusal),

@@ -3,17 +3,18 @@
 //! Every byte of the tables is a field's: none lies between two fields or behind the last. So equal tables are equal bytes.
 
 use crate::event::Event;
+use crate::holes::Holes;
 use crate::place::Place;
 use crate::refusal::Refusal;
 use std::fmt;
 use std::mem::{align_of, offset_of, size_of, transmute};
 
-/// The form of stored tables: it changes with the layout. Keep it beside them, and read back none of another version. The length does not tell versions apart:
-/// tables of version 2 have as many bytes.
-pub const TABLES_VERSION: u32 = 3;
+/// The form of stored tables: it changes with the layout. Keep it beside them, and read back none of another version. Tables of version 3, which have 1,136
+/// bytes, do not say by which rule their grants go. The length does not tell versions apart: tables of version 2 have 1,136 bytes too.
+pub const TABLES_VERSION: u32 = 4;
 
 /// How many bytes the tables are.
-pub const TABLES_LENGTH: usize = 1136;
+pub const TABLES_LENGTH: usize = 1144;
 
 /// A module, as in the image.
 #[repr(C)]
@@ -96,6 +97,8 @@ pub struct Tables {
     pub running: u8,
     pub channel: u8,
     pub threads: Threads,
+    /// The number of a [`Holes`], which start a grant takes; [`Tables::grants_by`] reads it.
+    pub holes: u64,
 }
 
 impl Tables {
@@ -129,6 +132,11 @@ impl Tables {
     /// the clock, as it never is by the table rules.
     pub fn waited(&self, block: u8) -> Option<u32> {
         self.clock.checked_sub(self.waits_since(block)?)
+    }
+
+    /// By which rule grants of core units go. `None` where `holes` names none, as it never does by the table rules.
+    pub fn grants_by(&self) -> Option<Holes> {
+        Holes::of(self.holes)
     }
 
     /// A task block by its number, 1 to 24.
@@ -206,7 +214,7 @@ layout!(Request, 6, place 0, owner 1, device 2, command 3, bytes 4);
 layout!(Threads, 100, fwd 0, back 41, first 82, last 91);
 layout!(
     Tables, TABLES_LENGTH, directory 0, on 272, signalled 280, pools 288, tasks 320, clock 920, free_tasks 924, free_requests 928, requests 932, running 1034,
-    channel 1035, threads 1036
+    channel 1035, threads 1036, holes 1136
 );
 layout!(Answer, 3, refusal 0, result 1, running 2);
 

@@ -1,6 +1,6 @@
 //! What the safe type promises: the document's first calls, refused images, tables that hold anything, and tables stored as bytes.
 
-use khilzurgee::{block_check, image_check, Answer, Event, Place, Refusal, Station, Tables, TABLES_LENGTH};
+use khilzurgee::{block_check, image_check, Answer, Event, Holes, Place, Refusal, Station, Tables, TABLES_LENGTH};
 
 /// The image of the session in full: N 2, events 0 and 1, three modules; its check is 1,906.
 fn image() -> [u8; 512] {
@@ -42,6 +42,7 @@ fn refused_images() {
     for (wrong, refusal) in [(&image()[..511], 1), (&[][..], 1), (&[0; 512][..], 2)] {
         assert_eq!(image_check(wrong), refusal);
         assert_eq!(Station::load(wrong), Err(refusal));
+        assert_eq!(Station::load_lowest(wrong), Err(refusal));
     }
 }
 
@@ -229,6 +230,77 @@ fn readings_of_any_tables() {
     assert_eq!((tables.place(24), tables.waits_since(24), tables.waited(24)), (Some(Place::Ready), None, None));
 }
 
+/// An image of N 1 with event 0, and with modules of level 2 that need so many units.
+fn image_of(units: &[u8]) -> [u8; 512] {
+    let mut image = [0; 512];
+    image[..3].copy_from_slice(&[1, units.len() as u8, 1]);
+    image[8] = 1;
+    for (module, units) in units.iter().enumerate() {
+        image[16 + 8 * module..][..2].copy_from_slice(&[2, *units]);
+    }
+    let check = block_check(&image).expect("512 bytes");
+    image[510..].copy_from_slice(&check.to_le_bytes());
+    image
+}
+
+/// WAIT for event 0.
+fn wait() -> [u8; 16] {
+    let mut wait = call(8, 0);
+    (wait[1], wait[3], wait[8]) = (1, 1, 1);
+    wait
+}
+
+/// Tasks 1 to 4 have units 0-7, 8-11, 12-15 and 16-63 of level 2. 1 ends, 2 waits and keeps its core, 3 ends: holes of 8 at 0 and of 4 at 12. Then 4 schedules
+/// a task of 4 units, block 1, and one of 8, block 3.
+fn chopped(mut station: Station) -> Tables {
+    for call in [call(32, 0), call(35, 0), call(35, 1), call(35, 1), call(35, 2), call(6, 0), wait(), call(6, 0)] {
+        assert_eq!(station.call(&call).refused(), None);
+    }
+    assert_eq!(station.tables().pools[2], 0xffff_ffff_ffff_0f00);
+    assert_eq!(station.call(&call(7, 1)), answer(0, 1, 4));
+    assert_eq!(station.call(&call(7, 0)), answer(0, 3, 4));
+    assert_eq!(station.tables().place(1), Some(Place::Ready));
+    *station.tables()
+}
+
+/// Document 02, E8: smallest hole first. By the old rule the short task breaks the long hole, and the long one waits.
+#[test]
+fn smallest_hole_first() {
+    let image = image_of(&[8, 4, 48]);
+    let new = chopped(Station::load(&image).expect("a good image"));
+    assert_eq!((new.tasks[1].start, new.tasks[3].start, new.pools[2]), (12, 0, u64::MAX));
+    assert_eq!((new.place(3), new.grants_by()), (Some(Place::Ready), Some(Holes::SmallestHole)));
+    let old = chopped(Station::load_lowest(&image).expect("a good image"));
+    assert_eq!((old.tasks[1].start, old.pools[2]), (0, 0xffff_ffff_ffff_0f0f));
+    assert_eq!((old.place(3), old.grants_by()), (Some(Place::Core), Some(Holes::LowestStart)));
+    assert_eq!(old.waits_since(3), Some(1));
+}
+
+/// "The desk keeps the old program": the loads differ in the rule alone, and stored tables keep theirs.
+#[test]
+fn two_loads() {
+    let new = Station::load(&image()).expect("a good image");
+    let old = Station::load_lowest(&image()).expect("a good image");
+    assert_eq!((new.tables().holes, old.tables().holes), (1, 0));
+    assert_eq!(Tables { holes: 1, ..*old.tables() }, *new.tables());
+    for station in [new, old] {
+        let stored = Tables::from_bytes(station.tables().to_bytes());
+        assert_eq!(stored.grants_by(), station.tables().grants_by());
+        let mut again = Station::from(stored);
+        assert_eq!(again.call(&call(35, 0)), answer(0, 1, 1));
+        assert_eq!(again.tables().holes, stored.holes);
+    }
+}
+
+#[test]
+fn holes_by_number() {
+    let known: Vec<Holes> = (0..=1000).chain([1 << 32, (1 << 32) + 1, u64::MAX]).filter_map(Holes::of).collect();
+    assert_eq!(known, [Holes::LowestStart, Holes::SmallestHole]);
+    assert!(known.iter().all(|holes| Holes::of(*holes as u64) == Some(*holes)));
+    assert_eq!(known.iter().map(Holes::to_string).collect::<Vec<String>>(), ["lowest start", "smallest hole"]);
+    assert_eq!(Tables::from_bytes([0xff; TABLES_LENGTH]).grants_by(), None);
+}
+
 /// Document 02, E4: no giving core back under a read.
 #[test]
 fn no_freemain_under_a_read() {
@@ -296,6 +368,18 @@ fn rules_of_readings() {
     }
     for (block, since) in [(2, 3), (2, u32::MAX), (0, 1), (1, 1), (3, 2), (4, 1), (24, 2)] {
         refused_by_9(with(block, since));
+    }
+}
+
+/// "every field in range": holes is 0 or 1.
+#[test]
+fn rules_of_holes() {
+    let loaded = *Station::load(&image()).expect("a good image").tables();
+    for holes in [0, 1] {
+        assert_eq!(Station::from(Tables { holes, ..loaded }).call(&call(32, 0)), answer(0, 1, 0));
+    }
+    for holes in [2, 3, 256, 257, 1 << 32, (1 << 32) + 1, u64::MAX] {
+        refused_by_9(Tables { holes, ..loaded });
     }
 }
 

@@ -102,6 +102,7 @@ module _ (s : State) (r : ℕ) (x : Request) where
             freeRequests-none = u .freeRequests-others 0 (λ z. omega (arith, z, u .some)) ∙ b .freeRequests-none;
             running = b .running;
             channel = u .bound;
+            holes = b .holes;
             events = b .events;
           };
           tasks = λ y a b. let w = g .tasks y a b in record {

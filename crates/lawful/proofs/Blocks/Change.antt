@@ -107,6 +107,7 @@ module _ (s : State) (k : ℕ) (ts : List Task) (r i : ℕ) (p : List ℕ) (l : 
             freeRequests-none = b .freeRequests-none;
             running = u .running;
             channel = b .channel;
+            holes = b .holes;
             events = b .events;
           };
           tasks = λ y a b.

@@ -1,6 +1,6 @@
 -- Core is granted to a task, or given back by it: one block and one pool change. The units stay those of the runs because the granted run is apart from
 -- the pool, and the one given back inside it.
-use mathlib.Core.Bool.{cond, and-false}
+use mathlib.Core.Bool.{true, cond, and-false}
 use mathlib.Core.Path.{_≡_, refl, sym, ap, _∙_}
 use mathlib.Core.Logic.{_≢_, inl, ⊎-elim}
 use mathlib.Core.List.{List}
@@ -17,12 +17,11 @@ use Rattle.image.specs.Directory.{noEntry}
 use Rattle.tables.specs.declared.Task.{Task}
 use Rattle.tables.specs.State.{State, timeQueue, withPool, withTask, taskAt, poolAt, queue, levelOf, unitsOf}
 use Rattle.tables.specs.Blocks.{Free, noTask, withCore, taskBlocks}
-use Rattle.pools.specs.Pools.{run, startOf}
+use Rattle.pools.specs.Pools.{run}
 use Rattle.pools.specs.Runs.{FreeRun}
-use Rattle.pools.proofs.Units.{free-inside}
-use Rattle.pools.proofs.Starts.{start-free}
+use Rattle.pools.proofs.Starts.{start-given, start-run}
 use Rattle.pools.proofs.Runs.{granted-low, run-apart}
-use Rattle.meaning.specs.Ready.{startFor, givenRun}
+use Rattle.meaning.specs.Ready.{fits, startFor, givenRun}
 use Rattle.meaning.specs.Rules.{queueFor}
 use Rattle.lawful.specs.Shape.{Hand, placeOf, moduleOf, Fields, Stands, holding, Core, Shape}
 use Rattle.words.specs.Counting.{one, bit}
@@ -137,13 +136,10 @@ module _ {s : State} {h : List ℕ} {e k : ℕ} (g : Shape s h e) (some : 1 ≤ 
   used : placeOf s h k ≢ Free
   used z = omega (arith, hand, z)
 
-  module _ (n : 1 ≤ unitsOf s k) (z : taskAt s k .core ≡ 0) (f : startFor s k < 64) where
+  module _ (n : 1 ≤ unitsOf s k) (z : taskAt s k .core ≡ 0) (f : fits s k ≡ true) where
     is-free : FreeRun (poolAt s (levelOf s k)) (startFor s k) (unitsOf s k)
-    unfolding startFor
-    is-free =
-        let p = poolAt s (levelOf s k) in
-        let free = start-free p (unitsOf s k) f in
-        record { inside = free-inside p (unitsOf s k) (startOf p (unitsOf s k)) free; free = free }
+    unfolding fits startFor
+    is-free = let p = poolAt s (levelOf s k) in start-run (s .holes) p (unitsOf s k) (startFor s k) refl (start-given (s .holes) p (unitsOf s k) f)
 
     fits-in : poolAt s (levelOf s k) + run (startFor s k) (unitsOf s k) < 2 ^ 64
     fits-in = granted-low (poolAt s (levelOf s k)) (startFor s k) (unitsOf s k) is-free (g .core .low (levelOf s k))

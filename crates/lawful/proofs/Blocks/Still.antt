@@ -33,6 +33,7 @@ still {s} {h} {h′} {e} c o m later g p f =
         freeRequests-none = b .freeRequests-none;
         running = b .running;
         channel = b .channel;
+        holes = b .holes;
         events = f;
       };
       tasks = λ y a b. stands-same {s = s} (record { directory = refl; block = refl; queues = λ q z. refl; runs = refl; freeTasks = refl; requests = refl; clock = later }) (p y) (g .tasks y a b);

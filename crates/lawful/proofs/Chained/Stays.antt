@@ -1,4 +1,4 @@
--- What every call leaves as it was: the directory, the clock but for the timer, the events but for SIGNAL, and who runs, but that a service call or a program check may stop
+-- What every call leaves as it was: the directory, the rule of the grants, the clock but for the timer, the events but for SIGNAL, and who runs, but that a service call or a program check may stop
 -- him.
 use mathlib.Core.Bool.{true, false, true≢false}
 use mathlib.Core.Path.{_≡_, refl, sym, ap, _∙_}
@@ -20,6 +20,7 @@ use Rattle.lawful.proofs.Chained.Chain.{effect-chain}
 -- ---- Every call.
 pub record Stays (c : Call) (s t : State) : Type 0 where
   pub directory : t .directory ≡ s .directory
+  pub holes : t .holes ≡ s .holes
   pub clock : c .code ≢ TIMER → t .clock ≡ s .clock
   pub later : s .clock ≤ t .clock
   pub on : c .code ≢ SIGNAL → t .on ≡ s .on
@@ -29,6 +30,7 @@ stays-next : {c : Call} {s t u : State} → Stays c s t → Leaves c t u → Sta
 stays-next a b =
     record {
       directory = b .directory ∙ a .directory;
+      holes = b .holes ∙ a .holes;
       clock = λ n. ⊎-elim (λ e. e ∙ a .clock n) (λ e. absurd (n (e .0))) (b .clock);
       later = ⊎-elim (λ e. omega (arith, e, a .later)) (λ e. omega (arith, e .1, a .later)) (b .clock);
       on = λ n. ⊎-elim (λ e. e .0 ∙ a .on n) (λ e. absurd (n e)) (b .events);
@@ -37,10 +39,10 @@ stays-next a b =
 
 stays-turn : {o : State} {c : Call} (s t u : State) → Stays c s t → Turn o c t u → Stays c s u
 stays-turn s t u a (small p) = stays-next a (leaves-numbers p)
-stays-turn s t u a (runs q k z f) = record { directory = a .directory; clock = a .clock; later = a .later; on = a .on; signalled = a .signalled }
+stays-turn s t u a (runs q k z f) = record { directory = a .directory; holes = a .holes; clock = a .clock; later = a .later; on = a .on; signalled = a .signalled }
 
 pub stays : {o : State} {c : Call} {s t : State} → Chain (Turn o c) s t → Stays c s t
-stays {o} {c} = carried (Stays c) (λ s. record { directory = refl; clock = λ n. refl; later = omega arith; on = λ n. refl; signalled = λ n. refl }) stays-turn
+stays {o} {c} = carried (Stays c) (λ s. record { directory = refl; holes = refl; clock = λ n. refl; later = omega arith; on = λ n. refl; signalled = λ n. refl }) stays-turn
 
 -- ---- The processor: a call puts nobody on it, and one that needs no running task takes nobody off.
 pub record Puts (c : Call) (s t : State) : Type 0 where

@@ -28,24 +28,25 @@ module _ {A : Type 0} (x d : A) where
 -- ---- One small change: the numbers.
 pub record Leaves (c : Call) (s t : State) : Type 0 where
   pub directory : t .directory ≡ s .directory
+  pub holes : t .holes ≡ s .holes
   pub clock : (t .clock ≡ s .clock) ⊎ ((c .code ≡ TIMER) × (t .clock ≡ s .clock + 1))
   pub events : ((t .on ≡ s .on) × (t .signalled ≡ s .signalled)) ⊎ (c .code ≡ SIGNAL)
   pub running : (t .running ≡ s .running) ⊎ ((needsTask (c .code) ≡ true) × (t .running ≡ 0))
 
-plain : {c : Call} {s t : State} → t .directory ≡ s .directory → t .clock ≡ s .clock → (t .on ≡ s .on) × (t .signalled ≡ s .signalled) → t .running ≡ s .running → Leaves c s t
-plain d c o r = record { directory = d; clock = inl c; events = inl o; running = inl r }
+plain : {c : Call} {s t : State} → t .directory ≡ s .directory → t .holes ≡ s .holes → t .clock ≡ s .clock → (t .on ≡ s .on) × (t .signalled ≡ s .signalled) → t .running ≡ s .running → Leaves c s t
+plain d b c o r = record { directory = d; holes = b; clock = inl c; events = inl o; running = inl r }
 
 pub leaves-numbers : {o : State} {c : Call} {s t : State} → Small o c s t → Leaves c s t
-leaves-numbers (ticks e f) = record { directory = refl; clock = inr (e, refl); events = inl (refl, refl); running = inl refl }
-leaves-numbers (tells x y e) = record { directory = refl; clock = inl refl; events = inr e; running = inl refl }
-leaves-numbers (stops e) = record { directory = refl; clock = inl refl; events = inl (refl, refl); running = inr (e, refl) }
-leaves-numbers (carries x) = plain refl refl (refl, refl) refl
-leaves-numbers (tasksFree x) = plain refl refl (refl, refl) refl
-leaves-numbers (requestsFree x) = plain refl refl (refl, refl) refl
-leaves-numbers (pools level x) = plain refl refl (refl, refl) refl
-leaves-numbers (block k b) = plain refl refl (refl, refl) refl
-leaves-numbers (asked r b) = plain refl refl (refl, refl) refl
-leaves-numbers (lines q b) = plain refl refl (refl, refl) refl
+leaves-numbers (ticks e f) = record { directory = refl; holes = refl; clock = inr (e, refl); events = inl (refl, refl); running = inl refl }
+leaves-numbers (tells x y e) = record { directory = refl; holes = refl; clock = inl refl; events = inr e; running = inl refl }
+leaves-numbers (stops e) = record { directory = refl; holes = refl; clock = inl refl; events = inl (refl, refl); running = inr (e, refl) }
+leaves-numbers (carries x) = plain refl refl refl (refl, refl) refl
+leaves-numbers (tasksFree x) = plain refl refl refl (refl, refl) refl
+leaves-numbers (requestsFree x) = plain refl refl refl (refl, refl) refl
+leaves-numbers (pools level x) = plain refl refl refl (refl, refl) refl
+leaves-numbers (block k b) = plain refl refl refl (refl, refl) refl
+leaves-numbers (asked r b) = plain refl refl refl (refl, refl) refl
+leaves-numbers (lines q b) = plain refl refl refl (refl, refl) refl
 
 -- the clock stands, or it goes on before any block has changed
 pub clock-of : {o : State} {c : Call} {s t : State} → Small o c s t → (t .clock ≡ s .clock) ⊎ (t .tasks ≡ o .tasks)

@@ -3,12 +3,10 @@ use mathlib.Core.Bool.{Bool, true, false, cond, not, _||_, true≢false}
 use mathlib.Core.Path.{_≡_, refl, sym, ap, ap₂, _∙_}
 use mathlib.Core.Logic.{_≢_, ⊎-elim}
 use mathlib.Core.List.{List, [], _∷_, _++_}
-use Prim.Native.Nat.{ℕ, _≤_, _<_}
+use Prim.Native.Nat.{ℕ, _≤_}
 use native.Mathlib.Omega.{arith}
 use lib.ListN.{set, getD}
 use lib.Seq.{getD-set-same, getD-set-other}
-use lib.Dec.{ltb}
-use borrow.Author.Tests.{ltb-true, ltb-false}
 use Rattle.threads.specs.Threads.{hd, count}
 use Rattle.words.proofs.Truth.{tested}
 use Rattle.words.specs.Words.{isEmpty}
@@ -16,7 +14,7 @@ use Rattle.image.specs.Directory.{noEntry}
 use Rattle.tables.specs.declared.Task.{Task}
 use Rattle.tables.specs.State.{State, eventQueue, coreQueue, taskAt, poolAt, queue, levelOf, unitsOf, joining}
 use Rattle.tables.specs.Blocks.{Free, Ready, InCore, noTask, moving}
-use Rattle.pools.specs.Pools.{startOf}
+use Rattle.pools.specs.Pools.{longEnough}
 use Rattle.meaning.specs.Ready.{placed, startFor, fits, needsCore, givenRun, readied, awaitsCore, madeReady}
 use Rattle.meaning.specs.Conditions.{enough}
 use Rattle.meaning.specs.Rules.{queueFor}
@@ -49,7 +47,7 @@ pub record Made (s s′ : State) (k : ℕ) (h : List ℕ) (e : ℕ) : Type 0 whe
 pub stuck-same : {s s′ : State} {level : ℕ} → queue s′ (coreQueue level) ≡ queue s (coreQueue level) → poolAt s′ level ≡ poolAt s level
     → ((y : ℕ) → unitsOf s′ y ≡ unitsOf s y) → Stuck s level → Stuck s′ level
 stuck-same {s} {s′} {level} q p u g =
-    record { stuck = λ k l e. rw (ap₂ startOf p (u k)) (g .stuck k l (sym q ∙ e)) }
+    record { stuck = λ k l e. rw (ap₂ longEnough p (u k)) (g .stuck k l (sym q ∙ e)) }
 
 pub asleep-same : {s s′ : State} {m : List ℕ} → queue s′ eventQueue ≡ queue s eventQueue → s′ .on ≡ s .on
     → ((y : ℕ) → 1 ≤ count y (queue s eventQueue) → taskAt s′ y ≡ taskAt s y) → Asleep s m → Asleep s′ m
@@ -98,8 +96,8 @@ module _ {s : State} {k : ℕ} {h : List ℕ} {e : ℕ} (i : InHand s k h e) whe
   unfolding givenRun
   granted-core-queue level = refl
 
-  pub awaits : needsCore s k ≡ true → (queue s (coreQueue (levelOf s k)) ≡ [] → 64 ≤ startFor s k) → Made s (awaitsCore s k) k h e
-  unfolding awaitsCore queueFor startFor
+  pub awaits : needsCore s k ≡ true → (queue s (coreQueue (levelOf s k)) ≡ [] → fits s k ≡ false) → Made s (awaitsCore s k) k h e
+  unfolding awaitsCore queueFor fits
   awaits n f =
       let c = needs-true s k n in
       let q = coreQueue (levelOf s k) in
@@ -118,7 +116,7 @@ module _ {s : State} {k : ℕ} {h : List ℕ} {e : ℕ} (i : InHand s k h e) whe
       }
     where
       first : (level : ℕ) → level ≡ levelOf s k → Stuck s level → (j : ℕ) (l m : List ℕ) → queue s (coreQueue (levelOf s k)) ≡ m → m ++ k ∷ [] ≡ j ∷ l
-          → 64 ≤ startOf (poolAt s level) (unitsOf s j)
+          → longEnough (poolAt s level) (unitsOf s j) ≡ false
       first level z g j l [] d c = let b : k ≡ j = ap hd c in rw (z, ← b) (f d)
       first level z g j l (a ∷ m) d c = let b : a ≡ j = ap hd c in rw (← b) (g .stuck a m (ap (λ (y : ℕ). queue s (coreQueue y)) z ∙ d))
 
@@ -143,7 +141,7 @@ pub record Seated (s s′ : State) (k : ℕ) (h : List ℕ) (e : ℕ) : Type 0 w
   pub waiting : (level : ℕ) → 1 ≤ level → level ≤ 3 → queue s′ (coreQueue level) ≡ queue s (coreQueue level)
 
 module _ {s : State} {k : ℕ} {h : List ℕ} {e : ℕ} (i : InHand s k h e) where
-  pub seats : needsCore s k ≡ true → startFor s k < 64 → Seated s (readied (givenRun s k) k) k h e
+  pub seats : needsCore s k ≡ true → fits s k ≡ true → Seated s (readied (givenRun s k) k) k h e
   seats n f =
       let c = needs-true s k n in
       let g = grant (i .shape) (i .some) (i .low) (held-place s h k) (c .0) (c .1) f in
@@ -158,14 +156,14 @@ module _ {s : State} {k : ℕ} {h : List ℕ} {e : ℕ} (i : InHand s k h e) whe
 
   -- ---- The law.
   pub made-ready : Made s (madeReady s k) k h e
-  unfolding madeReady fits
-  made-ready = go (needsCore s k) refl (queue s (coreQueue (levelOf s k))) refl (ltb (startFor s k) 64) refl
+  unfolding madeReady
+  made-ready = go (needsCore s k) refl (queue s (coreQueue (levelOf s k))) refl (fits s k) refl
     where
-      go : (b : Bool) → needsCore s k ≡ b → (l : List ℕ) → queue s (coreQueue (levelOf s k)) ≡ l → (c : Bool) → ltb (startFor s k) 64 ≡ c
+      go : (b : Bool) → needsCore s k ≡ b → (l : List ℕ) → queue s (coreQueue (levelOf s k)) ≡ l → (c : Bool) → fits s k ≡ c
           → Made s (cond b (cond (not (isEmpty l) || not c) (awaitsCore s k) (readied (givenRun s k) k)) (readied s k)) k h e
       go false n l q c f = ready i (needs-false s k n)
-      go true n [] q false f = awaits i n (λ z. ltb-false _ _ f)
+      go true n [] q false f = awaits i n (λ z. f)
       go true n [] q true f =
-          let r = seats n (ltb-true _ _ f) in
+          let r = seats n f in
           record { shape = r .shape; frame = r .frame; stuck = λ level a b g. r .stuck level a b (λ z. rw z q) g }
       go true n (a ∷ l) q c f = awaits i n (λ z. absurd (true≢false (ap isEmpty (sym z ∙ q))))

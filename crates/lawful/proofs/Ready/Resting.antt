@@ -9,7 +9,7 @@ use Rattle.threads.specs.Threads.{count, QUEUES}
 use Rattle.image.specs.declared.Directory.{Directory}
 use Rattle.tables.specs.declared.Task.{Task}
 use Rattle.tables.specs.State.{State, eventQueue, channelQueue, coreQueue, taskAt, poolAt, queue}
-use Rattle.pools.specs.Pools.{startOf}
+use Rattle.pools.specs.Pools.{longEnough}
 use Rattle.meaning.specs.Conditions.{enough}
 use Rattle.lawful.specs.Shape.{moduleOf, InHand}
 use Rattle.lawful.specs.Resting.{Asleep, Stuck, Rest}
@@ -44,7 +44,7 @@ module _ {s s′ : State} {k : ℕ} (b : Beside s s′ k) where
             let q = sym (b .core level lo hi) ∙ e in
             let d : j ≢ k = λ z.
             omega (arith, b .out level lo hi, ap (count k) q, count-cons j k l, one-same j k z) in
-            rw (ap₂ startOf (b .pools level lo hi) (ap₂ (λ (x : Directory) (t : Task). moduleOf x t .units) (b .directory) (b .tasks j d))) (g .stuck j l q);
+            rw (ap₂ longEnough (b .pools level lo hi) (ap₂ (λ (x : Directory) (t : Task). moduleOf x t .units) (b .directory) (b .tasks j d))) (g .stuck j l q);
       }
 
   pub rest-beside : {m : List ℕ} → Rest s m → Rest s′ m

@@ -6,15 +6,13 @@ use mathlib.Core.Logic.{_≢_, ⊎-elim}
 use mathlib.Core.List.{List, [], _∷_}
 use Prim.Native.Nat.{ℕ, _≤_, _<_}
 use native.Mathlib.Omega.{arith}
-use lib.Dec.{ltb}
-use borrow.Author.Tests.{ltb-true, ltb-false}
 use Rattle.threads.specs.Threads.{hd, count, without}
 use Rattle.threads.proofs.Lists.{count-nil, without-at}
 use Rattle.words.proofs.Truth.{tested}
 use Rattle.words.specs.Words.{if_then_else_, isEmpty}
 use Rattle.tables.specs.State.{State, eventQueue, channelQueue, coreQueue, queue, levelOf, leaving}
 use Rattle.meaning.specs.Conditions.{enough}
-use Rattle.meaning.specs.Ready.{startFor, fits, needsCore, seated, serving, served}
+use Rattle.meaning.specs.Ready.{fits, needsCore, seated, serving, served}
 use Rattle.lawful.specs.Shape.{Shape, InHand}
 use Rattle.lawful.specs.Resting.{Asleep, Stuck, Flowing, Rest}
 use Rattle.lawful.proofs.Ready.Cases.{needs}
@@ -65,8 +63,8 @@ module _ {s : State} {h : List ℕ} {e : ℕ} {level : ℕ} {m : List ℕ} (g : 
     own = let p = member-core g k (coreQueue level) low here (omega arith) (omega arith) .1 in omega (arith, p)
 
     -- the first does not fit
-    serve-stop : 64 ≤ startFor s k → Serves s h e m
-    unfolding startFor
+    serve-stop : fits s k ≡ false → Serves s h e m
+    unfolding fits
     serve-stop f =
         record {
           shape = g;
@@ -94,8 +92,8 @@ module _ {s : State} {h : List ℕ} {e : ℕ} {level : ℕ} {m : List ℕ} (g : 
         let c = member-stands g k (coreQueue level) low here .fields .waits p in
         needs (leaving s (coreQueue level) k) k (λ z. omega (arith, z, c .0)) (c .1)
 
-    pub seat : startFor s k < 64 → Seated (leaving s (coreQueue level) k) (seated s (coreQueue level) k) k h e
-    unfolding seated startFor
+    pub seat : fits s k ≡ true → Seated (leaving s (coreQueue level) k) (seated s (coreQueue level) k) k h e
+    unfolding seated fits
     seat f = seats hand needing f
 
     pub gone : queue (leaving s (coreQueue level) k) (coreQueue level) ≡ l
@@ -104,7 +102,7 @@ module _ {s : State} {h : List ℕ} {e : ℕ} {level : ℕ} {m : List ℕ} (g : 
     pub others : (i : ℕ) → i ≢ coreQueue level → queue (leaving s (coreQueue level) k) i ≡ queue s i
     others i n = set-others (s .queues) (coreQueue level) (without k (queue s (coreQueue level))) (g .sizes .queues) (omega arith) i n
 
-    pub seat-rest : startFor s k < 64 → RestBut (seated s (coreQueue level) k) m level
+    pub seat-rest : fits s k ≡ true → RestBut (seated s (coreQueue level) k) m level
     unfolding enough
     seat-rest f =
         let d = seat f in
@@ -120,21 +118,21 @@ module _ {s : State} {h : List ℕ} {e : ℕ} {level : ℕ} {m : List ℕ} (g : 
           flowing = record { flowing = λ x c. d .frame .queues channelQueue (λ z. omega (arith, z)) ∙ others channelQueue (λ z. omega (arith, z)) ∙ r .flowing .flowing x (sym (frame-channel (d .frame)) ∙ c) };
         }
 
-    pub seat-queue : startFor s k < 64 → queue (seated s (coreQueue level) k) (coreQueue level) ≡ l
+    pub seat-queue : fits s k ≡ true → queue (seated s (coreQueue level) k) (coreQueue level) ≡ l
     seat-queue f = seat f .waiting level lo hi ∙ gone
 
 -- ---- The loop.
 module _ {h : List ℕ} {e : ℕ} {level : ℕ} {m : List ℕ} (lo : 1 ≤ level) (hi : level ≤ 3) where
   pub serves : (l : List ℕ) (s : State) → Shape s h e → RestBut s m level → queue s (coreQueue level) ≡ l → Serves (serving (coreQueue level) l s) h e m
-  unfolding serving fits
+  unfolding serving
   serves [] s g r q = serve-none g r lo hi q
-  serves (k ∷ l) s g r q = go (ltb (startFor s k) 64) refl (λ f. serves l (seated s (coreQueue level) k) (seat g r lo hi k l q f .shape) (seat-rest g r lo hi k l q f) (seat-queue g r lo hi k l q f))
+  serves (k ∷ l) s g r q = go (fits s k) refl (λ f. serves l (seated s (coreQueue level) k) (seat g r lo hi k l q f .shape) (seat-rest g r lo hi k l q f) (seat-queue g r lo hi k l q f))
     where
-      go : (b : Bool) → ltb (startFor s k) 64 ≡ b
-          → (startFor s k < 64 → Serves (serving (coreQueue level) l (seated s (coreQueue level) k)) h e m)
+      go : (b : Bool) → fits s k ≡ b
+          → (fits s k ≡ true → Serves (serving (coreQueue level) l (seated s (coreQueue level) k)) h e m)
           → Serves (if b then serving (coreQueue level) l (seated s (coreQueue level) k) else s) h e m
-      go true f ih = ih (ltb-true _ _ f)
-      go false f ih = serve-stop g r lo hi k l q (ltb-false _ _ f)
+      go true f ih = ih f
+      go false f ih = serve-stop g r lo hi k l q f
 
   pub serve : (s : State) → Shape s h e → RestBut s m level → Serves (served s level) h e m
   unfolding served

@@ -74,6 +74,7 @@ module _ (s : State) (z : Sizes s) (low : (level : ℕ) → poolAt s level < 2 ^
         freeRequests-none = bit-of (s .freeRequests) 0 (not-true _ (free .freeRequests-none));
         running = leb-true _ _ (range .running);
         channel = leb-true _ _ (range .channel);
+        holes = leb-true _ _ (range .holes);
         events =
             record {
               on = λ v. and-within v (s .on) (s .signalled) (eqb-true _ _ (r .each .onSignalled));

@@ -1,20 +1,20 @@
 -- The rules of rest as tests: each is a test over one queue, and back.
 use mathlib.Core.Bool.{Bool, true, not, _&&_}
-use mathlib.Core.Path.{_≡_, refl, sym, ap}
+use mathlib.Core.Path.{_≡_, refl, sym, ap, _∙_}
 use mathlib.Core.Logic.{⊎-elim}
 use mathlib.Core.List.{List, [], _∷_, _++_}
 use Prim.Native.Nat.{ℕ, _≤_}
 use native.Mathlib.Omega.{arith}
-use lib.Dec.{eqb, leb, ltb}
-use borrow.Author.Tests.{not-true, not-false, leb-true, le-leb, eqb-true, eq-eqb, ltb-false, le-ltb}
+use lib.Dec.{eqb, leb}
+use borrow.Author.Tests.{not-true, not-false, leb-true, le-leb, eqb-true, eq-eqb}
 use Rattle.threads.specs.Threads.{hd, count}
 use Rattle.threads.proofs.Lists.{count-nil, count-append}
 use Rattle.words.specs.Words.{_implies_, size, isEmpty, oneTo, allOf}
 use Rattle.words.proofs.Places.{under-or-from}
 use Rattle.tables.specs.State.{State, channelQueue, eventQueue, coreQueue, readyQueue, taskAt, poolAt, queue, levelOf, unitsOf}
-use Rattle.pools.specs.Pools.{startOf}
+use Rattle.pools.specs.Pools.{longEnough}
 use Rattle.meaning.specs.Conditions.{enough, undefinedIn}
-use Rattle.meaning.specs.Ready.{startFor, fits}
+use Rattle.meaning.specs.Ready.{fits}
 use Rattle.meaning.specs.Rules.{idleOnlyIfNoneReady, eventsWait, coreWaits, ofTheirLevel, channelBusy, eventsPass}
 use Rattle.lawful.specs.Shape.{Shape}
 use Rattle.lawful.specs.Resting.{Flowing, Asleep, Stuck, Busy}
@@ -64,34 +64,34 @@ module _ (s : State) where
 
 -- ---- "and no first waiter for core would fit": who waits for core of a level has a module of that level.
 module _ {s : State} (g : Shape s [] 0) where
-  core-start : (level k : ℕ) (l : List ℕ) → 1 ≤ level → level ≤ 3 → queue s (coreQueue level) ≡ k ∷ l → startFor s k ≡ startOf (poolAt s level) (unitsOf s k)
-  unfolding startFor
-  core-start level k l a b e =
+  core-fits : (level k : ℕ) (l : List ℕ) → 1 ≤ level → level ≤ 3 → queue s (coreQueue level) ≡ k ∷ l → fits s k ≡ longEnough (poolAt s level) (unitsOf s k)
+  unfolding fits
+  core-fits level k l a b e =
       let c : 1 ≤ count k (queue s (coreQueue level)) = omega (arith, ap (count k) e, count-cons k k l, one-same k k refl) in
       let m = member-core g k (coreQueue level) (omega (arith, b)) c (omega (arith, a)) (omega (arith, b)) in
       let i : levelOf s k ≡ level = omega (arith, m .1) in
-      ap (λ (x : ℕ). startOf (poolAt s x) (unitsOf s k)) i
+      ap (λ (x : ℕ). longEnough (poolAt s x) (unitsOf s k)) i
 
   abbrev waitsAt : ℕ → Bool
   waitsAt level = not (isEmpty (queue s (coreQueue level))) implies not (fits s (hd (queue s (coreQueue level))))
 
   pub stuck-of : coreWaits s ≡ true → (level : ℕ) → 1 ≤ level → level ≤ 3 → Stuck s level
-  unfolding coreWaits fits
+  unfolding coreWaits
   stuck-of e level a b =
       record {
         stuck = λ k l q.
             let w = all-to waitsAt 3 e level a b in
-            let f : not (ltb (startFor s k) 64) ≡ true = rw q at w in
-            omega (arith, sym (core-start level k l a b q), ltb-false (startFor s k) 64 (not-true _ f));
+            let f : not (fits s k) ≡ true = rw q at w in
+            sym (core-fits level k l a b q) ∙ not-true _ f;
       }
 
   pub of-stuck : ((level : ℕ) → 1 ≤ level → level ≤ 3 → Stuck s level) → coreWaits s ≡ true
-  unfolding coreWaits fits
+  unfolding coreWaits
   of-stuck f = to-all waitsAt 3 (λ level a b. go level a b (queue s (coreQueue level)) refl)
     where
-      go : (level : ℕ) → 1 ≤ level → level ≤ 3 → (l : List ℕ) → queue s (coreQueue level) ≡ l → (not (isEmpty l) implies not (ltb (startFor s (hd l)) 64)) ≡ true
+      go : (level : ℕ) → 1 ≤ level → level ≤ 3 → (l : List ℕ) → queue s (coreQueue level) ≡ l → (not (isEmpty l) implies not (fits s (hd l))) ≡ true
       go level a b [] e = refl
-      go level a b (k ∷ l) e = ap not (le-ltb (startFor s k) 64 (omega (arith, core-start level k l a b e, f level a b .stuck k l e)))
+      go level a b (k ∷ l) e = ap not (core-fits level k l a b e ∙ f level a b .stuck k l e)
 
   -- "ready and core queues hold their level's tasks"
   of-level : (level k : ℕ) → 1 ≤ level → level ≤ 3 → 1 ≤ count k (queue s (readyQueue level) ++ queue s (coreQueue level)) → levelOf s k ≡ level

@@ -8,6 +8,7 @@ use lib.Dec.{eqb, leb}
 use borrow.Author.Tests.{eq-eqb, eqb-true, le-leb, lt-ltb, ne-eqb}
 use Rattle.words.proofs.Truth.{tested, and-of, of-implied}
 use Rattle.words.specs.Words.{_implies_, has}
+use Rattle.pools.specs.Pools.{SmallestHole}
 use Rattle.tables.specs.Blocks.{Free, InLink, InCheck, Ending, taskBlocks, requestBlocks}
 use Rattle.tables.specs.State.{State, taskAt, poolAt, levelOf}
 use Rattle.meaning.specs.Conditions.{undefinedIn}
@@ -52,6 +53,7 @@ module _ {s : State} (g : Lawful s) where
       record {
         running = le-leb (s .running) 24 (g .shape .blank .running);
         channel = le-leb (s .channel) 16 (g .shape .blank .channel);
+        holes = le-leb (s .holes) SmallestHole (g .shape .blank .holes);
         tasks = to-all (taskRange s) taskBlocks (λ k a b. of-range s k (stands k a b .fields) (request-low k a b));
         requests = to-all (requestRange s) requestBlocks (λ r a b. of-request-range s r (g .shape .requests r a b));
       }

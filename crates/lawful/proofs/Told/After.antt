@@ -1,4 +1,4 @@
--- What a step leaves: who runs, and the directory. What is shown of a call and its dispatch, said of the tables; by the two ways in which a step ends.
+-- What a step leaves: who runs, the directory, and the rule of the grants. What is shown of a call and its dispatch, said of the tables; by the two ways in which a step ends.
 use mathlib.Core.Bool.{true, false, true≢false}
 use mathlib.Core.Path.{_≡_, refl, sym, ap, _∙_}
 use mathlib.Core.Logic.{_≢_, _⊎_, ⊎-elim}
@@ -61,6 +61,12 @@ module _ (t : Tables) (bytes : List ℕ) where
   step-directory =
       ⊎-elim (λ z. rw (z .1, refused-leaves t (firstOf (refusals t bytes)))) (λ z. rw (z .1) (stays (turn-chain (read t) (callOf bytes)) .directory)) (step-ends t bytes)
 
+  -- E8: no call changes the rule by which core is granted
+  pub step-holes : stepOf t bytes .tables .holes ≡ t .holes
+  unfolding accepted
+  step-holes =
+      ⊎-elim (λ z. rw (z .1, refused-leaves t (firstOf (refusals t bytes)))) (λ z. rw (z .1) (stays (turn-chain (read t) (callOf bytes)) .holes)) (step-ends t bytes)
+
   -- ---- The three numbers.
   pub refused-line : (n : ℕ) → stepOf t bytes .outcome ≡ Refused n → lineOf (stepOf t bytes) ≡ n ∷ 0 ∷ (if eqb n 9 then 0 else t .running) ∷ []
   unfolding lineOf numbers refused
@@ -75,23 +81,27 @@ module _ (t : Tables) (bytes : List ℕ) where
 -- ---- From an image on: it was accepted, and its directory stays.
 module _ (image : List ℕ) where
   pub reached-loads : {t : Tables} → Reached image t → refusalOf (loadOf image .outcome) ≡ 0
-  reached-loads (load e) = e
+  reached-loads (load b l e) = e
   reached-loads (step bytes r) = reached-loads r
 
-  pub loaded-directory : refusalOf (loadOf image .outcome) ≡ 0 → tablesOf image .directory ≡ loadOf image .directory
+  pub loaded-directory : (holes : ℕ) → refusalOf (loadOf image .outcome) ≡ 0 → tablesOf holes image .directory ≡ loadOf image .directory
   unfolding tablesOf loaded
-  loaded-directory e = rw (eq-eqb (refusalOf (loadOf image .outcome)) 0 e)
+  loaded-directory b e = rw (eq-eqb (refusalOf (loadOf image .outcome)) 0 e)
 
-  pub loaded-line : refusalOf (loadOf image .outcome) ≡ 0 → (loadLine image ≡ 0 ∷ tablesOf image .directory .modules ∷ 0 ∷ []) × (tablesOf image .directory ≡ directoryOf image)
+  pub loaded-line : (holes : ℕ) → refusalOf (loadOf image .outcome) ≡ 0 → (loadLine image ≡ 0 ∷ tablesOf holes image .directory .modules ∷ 0 ∷ []) × (tablesOf holes image .directory ≡ directoryOf image)
   unfolding loadLine numbers
-  loaded-line e =
+  loaded-line b e =
       let l = load-accepted image (sym (check-is-load image) ∙ e) in
-      let d = loaded-directory e ∙ ap (λ (x : Loaded). x .directory) l in
+      let d = loaded-directory b e ∙ ap (λ (x : Loaded). x .directory) l in
       (rw (d, l), d)
 
   pub reached-directory : {t : Tables} → Reached image t → t .directory ≡ loadOf image .directory
-  reached-directory (load e) = loaded-directory e
+  reached-directory (load b l e) = loaded-directory b e
   reached-directory (step {t} bytes r) = step-directory t bytes ∙ reached-directory r
+
+  pub loaded-holes : (holes : ℕ) → refusalOf (loadOf image .outcome) ≡ 0 → tablesOf holes image .holes ≡ holes
+  unfolding tablesOf loaded
+  loaded-holes b e = rw (eq-eqb (refusalOf (loadOf image .outcome)) 0 e)
 
 -- ---- Calls, one after the other.
 pub after-append : (t : Tables) (before behind : List (List ℕ)) → afterCalls t (before ++ behind) ≡ afterCalls (afterCalls t before) behind
@@ -103,3 +113,8 @@ pub after-reached : (image : List ℕ) (calls : List (List ℕ)) {t : Tables} �
 unfolding afterCalls
 after-reached image [] r = r
 after-reached image (b ∷ calls) r = after-reached image calls (step b r)
+
+pub after-holes : (t : Tables) (calls : List (List ℕ)) → afterCalls t calls .holes ≡ t .holes
+unfolding afterCalls
+after-holes t [] = refl
+after-holes t (b ∷ calls) = after-holes (stepOf t b .tables) calls ∙ step-holes t b

@@ -85,9 +85,9 @@ module _ (image : List ℕ) where
   load-outcome = ⊎-elim (λ z. inl (z .0, ap (λ (x : Loaded). x .outcome) (z .1) ∙ refused-by (firstOf (loadRows image)) (z .0))) (λ z. inr (z .0, ap (λ (x : Loaded). x .outcome) (z .1))) load-ends
 
   -- its tables, and its directory
-  pub refused-tables : (n : ℕ) → loadOf image .outcome ≡ Refused n → (tablesOf image ≡ tabled allZero) × (loadOf image .directory ≡ noDirectory)
+  pub refused-tables : (holes n : ℕ) → loadOf image .outcome ≡ Refused n → (tablesOf holes image ≡ tabled allZero) × (loadOf image .directory ≡ noDirectory)
   unfolding tablesOf refusedLoad
-  refused-tables n e =
+  refused-tables holes n e =
       ⊎-elim (λ z. rw (z .1, refused-by (firstOf (loadRows image)) (z .0), ne-eqb (firstOf (loadRows image)) 0 (z .0)) (refl, refl))
       (λ z. absurd (let w = refused-where load-outcome n .0 e in w .1 (sym (w .0) ∙ z .0))) load-ends
 

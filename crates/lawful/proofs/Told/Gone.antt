@@ -59,7 +59,7 @@ freed-gone : (s : State) (k : ℕ) → Gone (finished s k) k
 unfolding finished
 freed-gone s k = free-gone _ k
 
-taken-gone : (s : State) (k : ℕ) → Gone (taken k s) k
+pub taken-gone : (s : State) (k : ℕ) → Gone (taken k s) k
 unfolding taken ended
 taken-gone s k = go (pending (unlinked s k) k)
   where

@@ -20,10 +20,10 @@ zeros zero i = omega arith
 zeros (suc n) zero = omega arith
 zeros (suc n) (suc i) = zeros n i
 
-typed : (d : Directory) → Typed (tabled (loaded d))
+typed : (b : ℕ) (d : Directory) → Typed (tabled (loaded b d))
 unfolding loaded threaded tab listOf
-typed d = record { tasks = refl; requests = refl; pools = refl; queues = refl; low = zeros 4 }
+typed b d = record { tasks = refl; requests = refl; pools = refl; queues = refl; low = zeros 4 }
 
-pub loads-typed : (image : List ℕ) → refusalOf (loadOf image .outcome) ≡ 0 → Typed (tablesOf image)
+pub loads-typed : (b : ℕ) (image : List ℕ) → refusalOf (loadOf image .outcome) ≡ 0 → Typed (tablesOf b image)
 unfolding tablesOf
-loads-typed image e = rw (eq-eqb _ _ e, load-accepted image (sym (check-is-load image) ∙ e)) (typed (directoryOf image))
+loads-typed b image e = rw (eq-eqb _ _ e, load-accepted image (sym (check-is-load image) ∙ e)) (typed b (directoryOf image))

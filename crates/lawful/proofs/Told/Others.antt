@@ -128,7 +128,7 @@ pub unlinked-parent : (s : State) (k : ℕ) → taskAt (unlinked s k) k .parent 
 unfolding unlinked
 unlinked-parent s k = ⊎-elim (λ e. ap (λ (t : Task). t .parent) e) (λ e. ap (λ (t : Task). t .parent) e) (set-own _ noTask (s .tasks) k)
 
-taken-other : (s : State) (k y : ℕ) → y ≢ k → Other s (taken k s) y
+pub taken-other : (s : State) (k y : ℕ) → y ≢ k → Other s (taken k s) y
 unfolding taken unlinked
 taken-other s k y d =
     let e = ap (λ (t : Task). t .place) (other-block s k y _ d) in

@@ -1,24 +1,21 @@
 -- The rules as records in the plain words of the meaning: a sum or a bit that is 1 or 0 is a fact that holds or not; who waits for events has too few on; and who is first in line
 -- for core finds a granted unit in every run of its length.
 use mathlib.Core.Bool.{true, false, true≢false}
-use mathlib.Core.Path.{_≡_, refl, sym, ap, _∙_}
+use mathlib.Core.Path.{_≡_, refl, sym, _∙_}
 use mathlib.Core.Logic.{_↔_}
 use mathlib.Core.List.{List, _∷_}
 use Prim.Native.Nat.{ℕ, _+_, _≤_, _<_}
-use native.Mathlib.Omega.{arith}
 use lib.Bits.{bitAnd}
 use borrow.Author.Tests.{eqb-true, eq-eqb, leb-false}
 use Rattle.threads.specs.Threads.{count}
 use Rattle.words.specs.Words.{has, size}
 use Rattle.pools.proofs.Units.{free-shown}
-use Rattle.pools.proofs.Starts.{start-first}
+use Rattle.pools.proofs.Rules.{long-not}
 use Rattle.tables.specs.State.{State, eventQueue, coreQueue, taskAt, poolAt, queue, unitsOf}
 use Rattle.meaning.specs.Conditions.{enough}
 use Rattle.words.specs.Counting.{one, bit}
 use Rattle.lawful.specs.Resting.{Lawful}
 use Rattle.words.proofs.Counting.{one-same, one-eq}
-use Rattle.threads.proofs.Queues.{count-cons}
-use Rattle.lawful.proofs.Blocks.Members.{member-stands, member-core}
 
 -- ---- Numbers that are 1 or 0.
 pub same-where : (a b c d : ℕ) → one a b ≡ one c d → (a ≡ b) ↔ (c ≡ d)
@@ -35,17 +32,7 @@ module _ {s : State} (g : Lawful s) where
 
   -- ---- "and no first waiter for core would fit"
   module _ (level : ℕ) (lo : 1 ≤ level) (hi : level ≤ 3) (k : ℕ) (behind : List ℕ) (e : queue s (coreQueue level) ≡ k ∷ behind) where
-    in-line : 1 ≤ count k (queue s (coreQueue level))
-    in-line = omega (arith, ap (count k) e, count-cons k k behind, one-same k k refl)
-
-    needs-some : 1 ≤ unitsOf s k
-    needs-some =
-        let m = member-core (g .shape) k (coreQueue level) (omega arith) in-line (omega arith) (omega arith) in
-        member-stands (g .shape) k (coreQueue level) (omega arith) in-line .fields .waits (m .0) .0
-
     pub no-run : (a : ℕ) → a + unitsOf s k ≤ 64 → ((u : ℕ) → a ≤ u → u < a + unitsOf s k → has (poolAt s level) u ≡ false) → ⊥
     no-run a l f =
-        let n = needs-some in
         let t = free-shown (poolAt s level) (unitsOf s k) a l f in
-        let b = start-first (poolAt s level) (unitsOf s k) a (omega (arith, l, n, g .rest .stuck level lo hi .stuck k behind e)) in
-        true≢false (sym t ∙ b)
+        true≢false (sym t ∙ long-not (poolAt s level) (unitsOf s k) (g .rest .stuck level lo hi .stuck k behind e) a)

@@ -95,24 +95,24 @@ module _ (e : ℕ) where
       (history calls (stepOf t b .tables))
 
 -- ---- From a load: nothing is signalled, and so what TEST EVENT answers is what the calls since have signalled.
-module _ (image : List ℕ) (loads : refusalOf (loadOf image .outcome) ≡ 0) where
-  loaded-none : tablesOf image .signalled ≡ 0
+module _ (holes : ℕ) (image : List ℕ) (loads : refusalOf (loadOf image .outcome) ≡ 0) where
+  loaded-none : tablesOf holes image .signalled ≡ 0
   unfolding tablesOf loaded
   loaded-none = rw (eq-eqb (refusalOf (loadOf image .outcome)) 0 loads)
 
-  module _ (calls : List (List ℕ)) (bytes : List ℕ) (test : callOf bytes .code ≡ TEST-EVENT) (accepted : refusalOf (stepOf (afterCalls (tablesOf image) calls) bytes .outcome) ≡ 0) where
+  module _ (calls : List (List ℕ)) (bytes : List ℕ) (test : callOf bytes .code ≡ TEST-EVENT) (accepted : refusalOf (stepOf (afterCalls (tablesOf holes image) calls) bytes .outcome) ≡ 0) where
     abbrev answer : ℕ
-    answer = resultOf (stepOf (afterCalls (tablesOf image) calls) bytes .outcome)
+    answer = resultOf (stepOf (afterCalls (tablesOf holes image) calls) bytes .outcome)
 
-    answer-never : Unsignalled (callOf bytes .number) (tablesOf image) calls → answer ≡ 3
+    answer-never : Unsignalled (callOf bytes .number) (tablesOf holes image) calls → answer ≡ 3
     answer-never n =
         let e = callOf bytes .number in
-        let k = unsignalled-known e calls (tablesOf image) n in
+        let k = unsignalled-known e calls (tablesOf holes image) n in
         tested-event _ bytes test accepted ∙ rw (k .0, loaded-none, has-none e)
 
-    answer-last : {v : ℕ} → LastSignalled (callOf bytes .number) v (tablesOf image) calls → (v ≤ 1) × (answer ≡ v + 1)
+    answer-last : {v : ℕ} → LastSignalled (callOf bytes .number) v (tablesOf holes image) calls → (v ≤ 1) × (answer ≡ v + 1)
     answer-last {v} l =
-        let k = last-known (callOf bytes .number) calls (tablesOf image) l in
+        let k = last-known (callOf bytes .number) calls (tablesOf holes image) l in
         (k .2, tested-event _ bytes test accepted ∙ rw (k .0, k .1) (by-value v (k .2)))
       where
         by-value : (v : ℕ) → v ≤ 1 → (if eqb v 1 then 2 else 1) ≡ v + 1
@@ -121,16 +121,16 @@ module _ (image : List ℕ) (loads : refusalOf (loadOf image .outcome) ≡ 0) wh
         by-value (suc (suc v)) h = absurd (omega (arith, h))
 
     -- 3 where nothing of the event was signalled, v + 1 where its last value was v; and each only there
-    answers : ((answer ≡ 3) × Unsignalled (callOf bytes .number) (tablesOf image) calls) ⊎ ((v : ℕ) × (v ≤ 1) × (answer ≡ v + 1) × LastSignalled (callOf bytes .number) v (tablesOf image) calls)
-    answers = ⊎-elim (λ n. inl (answer-never n, n)) (λ l. let a = answer-last (l .1) in inr (l .0, a .0, a .1, l .1)) (history (callOf bytes .number) calls (tablesOf image))
+    answers : ((answer ≡ 3) × Unsignalled (callOf bytes .number) (tablesOf holes image) calls) ⊎ ((v : ℕ) × (v ≤ 1) × (answer ≡ v + 1) × LastSignalled (callOf bytes .number) v (tablesOf holes image) calls)
+    answers = ⊎-elim (λ n. inl (answer-never n, n)) (λ l. let a = answer-last (l .1) in inr (l .0, a .0, a .1, l .1)) (history (callOf bytes .number) calls (tablesOf holes image))
 
-    pub never-where : (answer ≡ 3) ↔ Unsignalled (callOf bytes .number) (tablesOf image) calls
+    pub never-where : (answer ≡ 3) ↔ Unsignalled (callOf bytes .number) (tablesOf holes image) calls
     never-where = (λ q. ⊎-elim (λ n. n .1) (λ l. absurd (omega (arith, q, l .1, l .2))) answers, answer-never)
 
-    pub value-where : (v : ℕ) → v ≤ 1 → (answer ≡ v + 1) ↔ LastSignalled (callOf bytes .number) v (tablesOf image) calls
+    pub value-where : (v : ℕ) → v ≤ 1 → (answer ≡ v + 1) ↔ LastSignalled (callOf bytes .number) v (tablesOf holes image) calls
     value-where v h = (
       λ q. ⊎-elim (λ n. absurd (omega (arith, q, h, n .0)))
-          (λ l. let same : l .0 ≡ v = omega (arith, q, l .2) in subst (λ (x : ℕ). LastSignalled (callOf bytes .number) x (tablesOf image) calls) same (l .3)) answers,
+          (λ l. let same : l .0 ≡ v = omega (arith, q, l .2) in subst (λ (x : ℕ). LastSignalled (callOf bytes .number) x (tablesOf holes image) calls) same (l .3)) answers,
       λ l. answer-last l .1,
     )
 

@@ -4,13 +4,14 @@ use mathlib.Core.Bool.{true}
 use mathlib.Core.Path.{_≡_, refl, ap}
 use mathlib.Core.Logic.{⊎-elim}
 use mathlib.Core.List.{List}
-use Prim.Native.Nat.{ℕ}
+use Prim.Native.Nat.{ℕ, _≤_}
 use Rattle.threads.specs.Threads.{threaded}
 use Rattle.threads.proofs.Read.{read-back, sound}
 use Rattle.words.specs.Words.{allTrue}
 use Rattle.words.specs.Rows.{firstOf}
 use Rattle.answers.specs.Answer.{refusalOf}
 use Rattle.image.specs.Load.{loadOf}
+use Rattle.pools.specs.Pools.{SmallestHole}
 use Rattle.tables.specs.declared.Tables.{Tables}
 use Rattle.tables.specs.State.{State, withQueues, read, tabled}
 use Rattle.calls.specs.Calls.{callOf}
@@ -71,11 +72,11 @@ step-keeps t bytes y e = tables-rules _ (step-lawful t bytes (rules-tables t y e
 
 -- ---- From an image that loads on.
 
-loads-lawful : (image : List ℕ) → refusalOf (loadOf image .outcome) ≡ 0 → LawfulTables (tablesOf image)
-loads-lawful image e = rules-tables (tablesOf image) (loads-typed image e) (load-lawful image e)
+loads-lawful : (b : ℕ) (image : List ℕ) → b ≤ SmallestHole → refusalOf (loadOf image .outcome) ≡ 0 → LawfulTables (tablesOf b image)
+loads-lawful b image l e = rules-tables (tablesOf b image) (loads-typed b image e) (load-lawful b image l e)
 
 pub reached-lawful : (image : List ℕ) {t : Tables} → Reached image t → LawfulTables t
-reached-lawful image (load e) = loads-lawful image e
+reached-lawful image (load b l e) = loads-lawful b image l e
 reached-lawful image (step {t} bytes r) = step-lawful t bytes (reached-lawful image r)
 
 pub reached-rules : (image : List ℕ) {t : Tables} → Reached image t → rulesHold t ≡ true

@@ -1,10 +1,10 @@
 -- Nobody overtakes, part by part: the relation `InTurn` of each level goes on from one part of a call to the next, and holds of a part that changes neither a core
--- queue nor who holds core. Two lists that are the same in two splits share the longer part.
+-- queue nor who holds core. Two lists that are the same in two splits share the longer part. With it goes the course of core (E8), part by part as well.
 use mathlib.Core.Bool.{true≢false}
 use mathlib.Core.Path.{_≡_, refl, sym, ap, ap₂, _∙_}
-use mathlib.Core.Logic.{_≢_, _⊎_, inl, inr, ⊎-elim}
+use mathlib.Core.Logic.{inl, inr, ⊎-elim}
 use mathlib.Core.List.{List, [], _∷_, _++_, append-nil, append-assoc}
-use Prim.Native.Nat.{ℕ, _+_, _≤_}
+use Prim.Native.Nat.{ℕ, _≤_}
 use native.Mathlib.Omega.{arith}
 use lib.ListN.{getD}
 use Rattle.threads.specs.Threads.{hd}
@@ -12,9 +12,11 @@ use Rattle.threads.proofs.Lists.{count-append}
 use Rattle.words.specs.Words.{isEmpty}
 use Rattle.image.specs.declared.Directory.{Directory}
 use Rattle.image.specs.Directory.{noEntry}
-use Rattle.tables.specs.Blocks.{HoldsRun}
+use Rattle.tables.specs.declared.Task.{Task}
+use Rattle.tables.specs.Blocks.{HoldsRun, noTask}
 use Rattle.tables.specs.State.{State, coreQueue, taskAt, queue, levelOf}
 use Rattle.lawful.specs.InTurn.{InTurn}
+use Rattle.lawful.specs.Granted.{SameCore, Change, Course, here, other, _next_}
 
 -- ---- Lists.
 tl : List ℕ → List ℕ
@@ -43,18 +45,20 @@ none-first : (a b : List ℕ) → a ++ b ≡ [] → a ≡ []
 none-first [] b e = refl
 none-first (x ∷ a) b e = absurd (cons-none x (a ++ b) e)
 
--- ---- The relation, at every level.
-pub record Turns (s u : State) : Type 0 where
+-- ---- The relation, at every level; and the course of core, in a call that was made in the state o.
+pub record Turns (o s u : State) : Type 0 where
   pub directory : u .directory ≡ s .directory
+  pub course : Course o s u
   pub turn : (level : ℕ) → 1 ≤ level → level ≤ 3 → InTurn s u level
 
--- a part that leaves the core queues as they are, and gives nobody core
-pub quiet : {s u : State} → u .directory ≡ s .directory
+-- one change of core that leaves the core queues as they are, and gives nobody core
+pub changes : {o s u : State} → Change o s u → u .directory ≡ s .directory
     → ((level : ℕ) → 1 ≤ level → level ≤ 3 → queue u (coreQueue level) ≡ queue s (coreQueue level))
-    → ((k : ℕ) → taskAt u k .core ≡ HoldsRun → (taskAt s k .core ≡ HoldsRun) × (taskAt u k .program ≡ taskAt s k .program)) → Turns s u
-quiet {s} {u} d q h =
+    → ((k : ℕ) → taskAt u k .core ≡ HoldsRun → (taskAt s k .core ≡ HoldsRun) × (taskAt u k .program ≡ taskAt s k .program)) → Turns o s u
+changes {o} {s} {u} c d q h =
     record {
       directory = d;
+      course = here next c;
       turn = λ level lo hi. record {
         served = [];
         left = queue s (coreQueue level);
@@ -65,8 +69,28 @@ quiet {s} {u} d q h =
       };
     }
 
-pub stays : (s : State) → Turns s s
-stays s = quiet refl (λ level lo hi. refl) (λ k c. (c, refl))
+-- who holds a run where core is the same
+pub holders : {s u : State} → SameCore s u → (k : ℕ) → taskAt u k .core ≡ HoldsRun → (taskAt s k .core ≡ HoldsRun) × (taskAt u k .program ≡ taskAt s k .program)
+holders e k c = (e .only k c, e .kept k (e .only k c) .program)
+
+-- a part that leaves core and the core queues as they are
+pub quiet : {o s u : State} → SameCore s u → ((level : ℕ) → 1 ≤ level → level ≤ 3 → queue u (coreQueue level) ≡ queue s (coreQueue level)) → Turns o s u
+quiet e q = changes (other e) (e .directory) q (holders e)
+
+-- where no block changes, and no pool
+pub same-core : {s u : State} → u .directory ≡ s .directory → u .holes ≡ s .holes → u .pools ≡ s .pools → u .tasks ≡ s .tasks → SameCore s u
+same-core {s} {u} d b l e =
+    let at : (k : ℕ) → taskAt u k ≡ taskAt s k = λ k. ap (λ (m : List Task). getD m k noTask) e in
+    record {
+      directory = d;
+      holes = b;
+      pools = l;
+      kept = λ k c. record { held = c; holds = ap (λ (t : Task). t .core) (at k) ∙ c; program = ap (λ (t : Task). t .program) (at k); start = ap (λ (t : Task). t .start) (at k) };
+      only = λ k c. sym (ap (λ (t : Task). t .core) (at k)) ∙ c;
+    }
+
+pub stays : {o : State} (s : State) → Turns o s s
+stays s = quiet (same-core refl refl refl refl) (λ level lo hi. refl)
 
 -- the level of a task is that of its module
 same-level : (s t : State) (k : ℕ) → t .directory ≡ s .directory → taskAt t k .program ≡ taskAt s k .program → levelOf t k ≡ levelOf s k
@@ -108,9 +132,14 @@ module _ {s t u : State} {level : ℕ} (d : u .directory ≡ t .directory) (a : 
         got = λ k c l. inr (inr refl);
       }
 
-pub then-turns : {s t u : State} → Turns s t → Turns t u → Turns s u
-then-turns {s} {t} {u} a b =
+course-on : {o s t u : State} → Course o s t → Course o t u → Course o s u
+course-on a here = a
+course-on a (b next c) = course-on a b next c
+
+pub then-turns : {o s t u : State} → Turns o s t → Turns o t u → Turns o s u
+then-turns {o} {s} {t} {u} a b =
     record {
       directory = b .directory ∙ a .directory;
+      course = course-on (a .course) (b .course);
       turn = λ level lo hi. in-turn (b .directory) (a .turn level lo hi) (b .turn level lo hi) (joined (b .directory) (a .turn level lo hi) (b .turn level lo hi));
     }

@@ -1,28 +1,19 @@
--- The first waiter would not fit: by what the search for a run found.
-use Rattle.rules.proofs.Fitting.{nobody, would-fit, would-not}
-use mathlib.Core.Path.{sym, _∙_}
+-- The first waiter would not fit: nobody waits, or no free run is long enough.
+use mathlib.Core.Bool.{not}
+use mathlib.Core.Path.{ap}
 use borrow.Author.Needs.{needs}
+use borrow.Author.Tests.{eq-eqb, ne-eqb}
 use Rattle.rules.proofs.queues.core_waits.Statement.{statement}
 use Rattle.rules.proofs.queues.core_waits.Tie as tie
 
 returns : tie.Need-returns
-returns c = nobody _ _ _ (c .if1 .taken)
+returns c = rw (eq-eqb _ 0 (c .if1 .taken))
 
-find-requires : tie.Need-find-requires
-find-requires c κs = search needs
-
-enum-told : tie.Need-enum-told
-enum-told c = search needs
-
-enum-told-2 : tie.Need-enum-told-2
-enum-told-2 c = search needs
+long-enough-requires : tie.Need-long-enough-requires
+long-enough-requires c κs = search needs
 
 returns-2 : tie.Need-returns-2
-returns-2 c = would-fit _ _ _ _ (c .before .before .before .if1 .left) (sym (c .before .before .find .ensures) ∙ c .enum-told .given .1)
-
-returns-3 : tie.Need-returns-3
-returns-3 c = would-not _ _ _ (c .before .before .before .if1 .left) (sym (c .before .before .find .ensures) ∙ c .enum-told2 .given .1)
+returns-2 c = rw (ne-eqb _ 0 (c .before .if1 .left)) (ap not (c .long-enough .ensures))
 
 pub core-waits-spec : {M : Type 1} → statement M
-core-waits-spec =
-    tie.close (tie.spec returns find-requires enum-told enum-told-2 returns-2 returns-3)
+core-waits-spec = tie.close (tie.spec returns long-enough-requires returns-2)

@@ -5,7 +5,7 @@ use lib.ListN.{length}
 use Rattle.tables.specs.State.{queue, coreQueue, read}
 use mathlib.Core.Path.{sym, ap, _∙_}
 use Rattle.image.specs.declared.Entry.{Entry}
-use Rattle.scheduler.proofs.Served.{Turn, turn-start, turn-end, turn-waiter, turn-member, turn-at, turn-stop, turn-next, turn-less}
+use Rattle.scheduler.proofs.Served.{Turn, turn-start, turn-end, turn-waiter, turn-member, turn-at, turn-fits, turn-stop, turn-next, turn-less}
 use Rattle.scheduler.proofs.serve.serve.Statement.{statement}
 use Rattle.scheduler.proofs.serve.serve.Tie as tie
 
@@ -77,8 +77,8 @@ loop-again : tie.Need-loop-again Inv-loop μ-loop
 loop-again c =
     let b = c .before .before .before .before .before .before .before .before in
     let e = ap (λ (x : Entry). x .units) (c .before .before .before .before .before .before .before .entry-of .ensures) in
-    let f = turn-at (b .before .loop .inv) (b .loop-test .taken) e (sym (c .before .before .before .before .before .find .ensures) ∙ c .before .before .before .found .given .1) in
-    turn-next (b .before .loop .inv) (b .loop-test .taken) (c .before .serve-one .ensures) (omega (arith, f)) (c .first-of2 .ensures)
+    let f = turn-fits (b .before .loop .inv) (b .loop-test .taken) e (sym (c .before .before .before .before .before .find .ensures) ∙ c .before .before .before .found .given .1) in
+    turn-next (b .before .loop .inv) (b .loop-test .taken) (c .before .serve-one .ensures) f (c .first-of2 .ensures)
 
 returns-2 : tie.Need-returns-2 Inv-loop μ-loop
 returns-2 c = turn-end (c .before .loop .inv) (c .loop-test .left)
