@@ -67,7 +67,7 @@ abbrev stayed : Stays (signature .params) (ended .kept)
 stayed = (stay-ref (0 ∷ []) tt (plain (λ _. T.the-row)), (stay-dropped (shrSliceOf (1 ∷ []) tt (plain (λ _. u8))) yes, tt))
 
 -- the code: `*t = after.tables; after.answer`
-abbrev rest : Code
+abbrev pub rest : Code
 rest =
     seq (assign (place 1 (deref T′.mir ∷ [])) (rvOpd (copy (place 3 (field 0 ∷ [])))))
     (seq (assign (place 0 []) (rvOpd (copy (place 3 (field 1 ∷ []))))) return)
@@ -119,7 +119,7 @@ module _ (p : Loan) where
 
   -- the promise c: what it binds outside beside what is passed, what it says where r is made, and the postcondition
   module _ {M : Type 1} {𝓤 : URA M} (c : Clauses 𝓤 ended) where
-    abbrev Bound : Type 0
+    abbrev pub Bound : Type 0
     Bound = c (p .κ, (p .κ′, tt)) a .ghost
 
     abbrev pub Promised : Bound → After → SProp 𝓤

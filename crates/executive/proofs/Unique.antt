@@ -9,7 +9,7 @@ use base.Logic.{SProp, ent, sep}
 use contract.Lifetimes.{Lfts}
 use contract.Monad.{Fun, fact}
 use denote.Ref.{now}
-use denote.Triple.Clauses.{AtExit}
+use denote.Triple.Clauses.{Clauses, AtExit}
 use denote.Triple.Entry.{Args}
 use ghost.Atoms.{Atoms}
 use prog.Memory.{Memory}
@@ -56,24 +56,16 @@ module _ {M : Type 1} (𝓤 : URA M) (ns : List ℕ) (u : Tables) where
   one-of-both r s t t′ = facts-once 𝓤 (λ p q. (one-answer r s ns (p .0) (q .0), p .1 ∙ sym (q .1)))
 
 -- what these promise fixes both; of the parameters at exit, `.0` is the tables that were lent
-module _ {M : Type 1} (𝓤 : URA M) (H : Heap 𝓤) (A : Atoms 𝓤) (mem : Memory → SProp 𝓤) (run : Routine → Fun 𝓤) (κs : Lfts 2) (r s : Answer) where
-  module _ (given : Args lent-load.signature κs) (end end′ : AtExit lent-load.ended κs) where
-    abbrev Loaded : Answer → AtExit lent-load.ended κs → SProp 𝓤
-    Loaded x e = lent-load.clauses 𝓤 H A mem run κs given .ensures tt x e
+module _ {M : Type 1} (𝓤 : URA M) (H : Heap 𝓤) (A : Atoms 𝓤) (mem : Memory → SProp 𝓤) (run : Routine → Fun 𝓤) where
+  abbrev OneLeft : Clauses 𝓤 advance.ended → Type 1
+  OneLeft c = (κs : Lfts 2) (given : Args advance.signature κs) (g : c κs given .ghost) (r s : Answer) (end end′ : AtExit advance.ended κs)
+      → ent 𝓤 (sep 𝓤 (c κs given .ensures g r end) (c κs given .ensures g s end′)) (fact 𝓤 ((r ≡ s) × (now (end .0) ≡ now (end′ .0))))
 
-    pub lent-load-only : ent 𝓤 (sep 𝓤 (Loaded r end) (Loaded s end′)) (fact 𝓤 ((r ≡ s) × (now (end .0) ≡ now (end′ .0))))
-    lent-load-only = one-of-both 𝓤 _ _ r s (now (end .0)) (now (end′ .0))
+  pub lent-load-only : OneLeft (lent-load.clauses 𝓤 H A mem run)
+  lent-load-only κs given g r s end end′ = one-of-both 𝓤 _ _ r s (now (end .0)) (now (end′ .0))
 
-  module _ (given : Args lent-lowest.signature κs) (end end′ : AtExit lent-lowest.ended κs) where
-    abbrev LoadedLowest : Answer → AtExit lent-lowest.ended κs → SProp 𝓤
-    LoadedLowest x e = lent-lowest.clauses 𝓤 H A mem run κs given .ensures tt x e
+  pub lent-lowest-only : OneLeft (lent-lowest.clauses 𝓤 H A mem run)
+  lent-lowest-only κs given g r s end end′ = one-of-both 𝓤 _ _ r s (now (end .0)) (now (end′ .0))
 
-    pub lent-lowest-only : ent 𝓤 (sep 𝓤 (LoadedLowest r end) (LoadedLowest s end′)) (fact 𝓤 ((r ≡ s) × (now (end .0) ≡ now (end′ .0))))
-    lent-lowest-only = one-of-both 𝓤 _ _ r s (now (end .0)) (now (end′ .0))
-
-  module _ (given : Args advance.signature κs) (end end′ : AtExit advance.ended κs) where
-    abbrev Advanced : Answer → AtExit advance.ended κs → SProp 𝓤
-    Advanced x e = advance.clauses 𝓤 H A mem run κs given .ensures tt x e
-
-    pub advance-only : ent 𝓤 (sep 𝓤 (Advanced r end) (Advanced s end′)) (fact 𝓤 ((r ≡ s) × (now (end .0) ≡ now (end′ .0))))
-    advance-only = one-of-both 𝓤 _ _ r s (now (end .0)) (now (end′ .0))
+  pub advance-only : OneLeft (advance.clauses 𝓤 H A mem run)
+  advance-only κs given g r s end end′ = one-of-both 𝓤 _ _ r s (now (end .0)) (now (end′ .0))
