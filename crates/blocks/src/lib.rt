@@ -6,6 +6,8 @@
 //
 // Each function takes the tables and gives them back changed, or answers what it is asked of them. It asks for no more than makes it safe, and ensures that the
 // tables then show the meaning of what it does.
+#![tactic(auto)]
+
 pub mod free;
 pub mod pending;
 

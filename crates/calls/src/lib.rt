@@ -1,6 +1,8 @@
 // Calls: the 16 bytes of a call, the fixed table over the codes, and the three numbers of an answer.
 //
 // It answers for the first paragraphs of 'Calls' of document 01. It knows bytes and numbers, and nothing of tables.
+#![tactic(auto)]
+
 pub mod codes;
 
 ghost use Rattle.std.specs.Prelude.{[], ◌∷◌, ◌≡◌};

@@ -4,6 +4,8 @@
 // dispatch at the end of a call.
 //
 // Each function takes the tables and gives them back changed. It ensures that the tables then show the meaning of what it does.
+#![tactic(auto)]
+
 pub mod check;
 pub mod done;
 pub mod queue;

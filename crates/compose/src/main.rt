@@ -3,6 +3,8 @@
 // how many calls were written.
 //
 // It knows the text form of docs/WORDS.md, the image and the 16 bytes of a call, and nothing of tables. A read may end at any byte.
+#![tactic(auto)]
+
 mod events;
 mod made;
 mod operands;

@@ -3,6 +3,8 @@
 // on standard error.
 //
 // It knows the image alone, and nothing of tables or calls.
+#![tactic(auto)]
+
 mod listing;
 
 use answers::Outcome;

@@ -4,6 +4,8 @@
 // it says so on standard error, with how many calls were answered.
 //
 // It answers for 'A session in full' of document 01. It keeps one set of tables, which `executive::khilzurgee_advance` changes where they lie.
+#![tactic(auto)]
+
 mod telling;
 
 ghost use Rattle.std.specs.Prelude.{◌≤◌};

@@ -5,5 +5,7 @@
 //
 // Each function takes the tables and gives them back changed, or has them lent and changes them, and ensures that they then show the meaning of what it does.
 // What it asks for is a record of specs/: the rules that hold while the task is in hand.
+#![tactic(auto)]
+
 pub mod abort;
 pub mod finish;

@@ -10,7 +10,7 @@ use Prim.Native.Nat.{ℕ}
 use mathlib.Core.List.{List, [], ◌∷◌, ◌++◌}
 use lib.ListN.{length}
 use seplogic.Ra.Ura.{Ura}
-use seplogic.Ra.TreeShare.{full_share}
+use base.Fraction.{full_share}
 use mir.Syntax.{Ty, Fn, Body as Code, named, place, deref, field, copy, rv_opd, seq, assign, return}
 use mir.Val.{Val, vptr}
 use base.Logic.{SProp, ent, via, fst∗}

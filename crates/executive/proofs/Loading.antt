@@ -7,7 +7,7 @@ use mathlib.Core.List.{List, [], ◌∷◌}
 use Prim.Native.Nat.{ℕ, ◌^◌, ◌<◌}
 use lib.Dec.{T as Holds, ltb, lit<}
 use seplogic.Ra.Ura.{Ura}
-use seplogic.Ra.TreeShare.{full_share}
+use base.Fraction.{full_share}
 use mir.Syntax.{Fn, local, value_local, ty_ref, ty_int, named, imm, mut, w8, w64, seq, call, int, copy, place}
 use mir.Val.{vptr, vint}
 use base.Logic.{SProp, ent, id⊢}

@@ -5,6 +5,8 @@
 // layout of the structs. A load and a call each have one function by value, which does all of it, and exported ones that only put the tables in their place.
 //
 // There are two loads: `load`, and `load_lowest` for recordings made before E8 of document 02, whose grants go by the lowest start. All else is one code.
+#![tactic(auto)]
+
 ghost use Rattle.std.specs.Prelude.{[], ◌∷◌, ◌≡◌};
 ghost use Rattle.answers.specs.Answer.{refusal_of};
 ghost use Rattle.image.specs.Load.{load_of};

@@ -2,6 +2,8 @@
 //
 // It knows what calls and numbers of documents 01 and 02 are called, and nothing of tables. Each function puts its words behind a line; the contracts say
 // that they fit. Which words they are is compared with what should be, by the gate.
+#![tactic(auto)]
+
 mod asked;
 mod given;
 pub mod refused;

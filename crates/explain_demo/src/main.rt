@@ -1,6 +1,8 @@
 // The words that no session reaches: of the refusals 9 and 21, and of a number that TEST EVENT never answers. All others are in crates/desk/explained.session.
 //
 // What it must write stands in the file `stdout`, made by hand from the papers.
+#![tactic(auto)]
+
 use calls::{Answer, codes};
 
 fn main() {

@@ -1,4 +1,6 @@
 // What can be wrong with a line of a session, and what is said of it on standard error: one line, with the number of the line that is refused.
+#![tactic(auto)]
+
 ghost use Rattle.faults.specs.Scans.{Inside};
 
 use libc::STDERR_FILENO;

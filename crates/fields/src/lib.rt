@@ -2,6 +2,8 @@
 //
 // It answers for the rules of 'Table rules, exactly' of document 01 that look at each block by itself. It knows blocks and marks, and nothing of what
 // goes over several blocks.
+#![tactic(auto)]
+
 mod block;
 mod turns;
 

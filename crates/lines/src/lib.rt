@@ -1,4 +1,6 @@
 // Lines: a line as bytes, gathered piece by piece, so that it can be written in one.
+#![tactic(auto)]
+
 ghost use Rattle.std.specs.Prelude.{◌+◌, ◌≤◌, ◌<◌, length, [], ◌++◌};
 ghost use Rattle.text.specs.Decimals.{spelling};
 ghost use Rattle.lines.specs.Lines.{room, Holds, Adds, Fits, member_of, members_of, answer_of};

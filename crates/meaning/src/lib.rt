@@ -1,6 +1,8 @@
 // The meaning of the executive: what document 01 says that calls and interrupts do, and the table rules, as definitions that can be computed.
 //
 // It has the types of what a call gives, and no code. Whoever wants to know what must be believed reads specs/ beside document 01.
+#![tactic(auto)]
+
 use answers::Outcome;
 use tables::Tables;
 

@@ -1,6 +1,8 @@
 // The words of a line of a session, one at a time: where the next one is, whether it is a given one, which number it is; and a range of events as a set.
 //
 // docs/WORDS.md has the lines. A line is any bytes.
+#![tactic(auto)]
+
 ghost use Rattle.std.specs.Prelude.{true, ◌≡◌, ◌+◌, ◌≤◌, ◌<◌, length};
 ghost use Rattle.text.specs.Decimals.{number_of};
 ghost use Rattle.phrases.specs.Words.{Within, Next, bytes_of};

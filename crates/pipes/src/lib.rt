@@ -3,6 +3,8 @@
 //
 // No contract can say what is read or written: those here say how much of a buffer may be looked at afterwards. A proved loop has to end, and nothing says
 // that bytes ever move: tries are counted down, from a number that no run uses up.
+#![tactic(auto)]
+
 mod again;
 
 ghost use Rattle.std.specs.Prelude.{◌≤◌, length, true, ◌≡◌};

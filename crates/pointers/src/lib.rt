@@ -2,6 +2,8 @@
 //
 // It answers for "Task and request blocks carry a forward and a back pointer for the queue they are on", one of the table rules of document 01. It knows
 // pointers, and nothing of what a block holds.
+#![tactic(auto)]
+
 ghost use Rattle.std.specs.Prelude.{◌≡◌};
 ghost use Rattle.pointers.specs.Walked.{clear_by, rest_clear, marks_told, Walks};
 

@@ -2,6 +2,8 @@
 //
 // It answers for 'a core pool of 64 units, one bit for each unit' of document 01, and for E8 of document 02: whether a free run is long enough, the start that a
 // grant takes by either rule, granting it, giving it back. It knows masks, and nothing of tasks or queues.
+#![tactic(auto)]
+
 ghost use Rattle.std.specs.Prelude.{not, ◌&&◌, ◌||◌, ◌≡◌, ℕ, ◌+◌, ◌-◌, ◌≤◌, eqb};
 ghost use Rattle.words.specs.Words.{has};
 ghost use Rattle.pools.specs.Pools.{run, free_at, long_enough, hole_at, shortest};

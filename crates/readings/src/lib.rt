@@ -2,6 +2,8 @@
 //
 // It answers for the question of document 02's E6, "how long a task has been stuck". It knows the tables before a call and after it, and nothing of what the
 // call was. A task's reading is the clock reading at which it entered the place in which it waits; 0 where it does not wait.
+#![tactic(auto)]
+
 mod beginners;
 
 ghost use Rattle.std.specs.Prelude.{◌+◌, ◌≤◌};

@@ -2,6 +2,8 @@
 //
 // It answers for the table of document 01's 'Calls' from 24 on, with the rows of document 02 in their places. It reads the tables and never changes them; what
 // an accepted call does is not known here.
+#![tactic(auto)]
+
 mod tests;
 
 ghost use Rattle.std.specs.Prelude.{◌≡◌};

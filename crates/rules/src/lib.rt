@@ -1,6 +1,8 @@
 // Rules: whether tables keep the table rules of document 01, of ANY tables, every field free.
 //
 // It answers for 'Table rules, exactly' of document 01. It knows the rules and what the tables are, and nothing of calls.
+#![tactic(auto)]
+
 mod links;
 mod queues;
 

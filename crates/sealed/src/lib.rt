@@ -1,6 +1,8 @@
 // A block of 512 bytes with its check behind the first 510: worked out, looked for, and put in.
 //
 // It answers for the check of 'Phase image' of document 01. It knows nothing of what a block holds.
+#![tactic(auto)]
+
 ghost use Rattle.std.specs.Prelude.{◌≡◌, ◌+◌, ◌*◌, ◌≤◌, ◌<◌, length, take};
 ghost use Rattle.words.specs.Words.{below, all_of};
 ghost use Rattle.sealed.specs.Sealed.{check_of, passes, sealed, zero_at};

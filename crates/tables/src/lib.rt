@@ -6,6 +6,8 @@
 // Block 0 names no block, and level 0 no level: slot 0 of `tasks`, `requests` and `pools` is always zero.
 //
 // No byte lies between two fields or behind the last: the order and the widths of the fields see to it, so that equal tables are equal bytes.
+#![tactic(auto)]
+
 ghost use Rattle.std.specs.Prelude.{◌≡◌};
 ghost use Rattle.tables.specs.State.{unused, tabled, loaded, all_zero};
 

@@ -5,6 +5,8 @@
 //
 // Each function takes the tables and gives them back changed. It asks for tables that follow the rules and for what the refusals have let pass, and ensures
 // that the tables then show the meaning of the call.
+#![tactic(auto)]
+
 pub mod starting;
 pub mod stopping;
 pub mod turns;

@@ -1,3 +1,5 @@
 // Text: decimal numbers and words, read from bytes, and numbers as bytes.
+#![tactic(auto)]
+
 pub mod decimals;
 pub mod word;

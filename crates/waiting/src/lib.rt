@@ -5,6 +5,8 @@
 //
 // Each function takes the tables and gives them back changed. It asks for no more than makes it safe, and ensures that the tables then show the
 // meaning of what it does.
+#![tactic(auto)]
+
 pub mod conditions;
 pub mod wait;
 pub mod wake;

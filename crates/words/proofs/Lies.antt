@@ -6,7 +6,7 @@
 use Prim.Native.Nat.{ℕ}
 use mathlib.Core.List.{List, [], ◌∷◌}
 use seplogic.Ra.Ura.{Ura}
-use seplogic.Ra.TreeShare.{full_share}
+use base.Fraction.{full_share}
 use mir.Syntax.{Ty}
 use mir.Val.{Val}
 use base.Logic.{ent, guard}
@@ -36,7 +36,7 @@ module _ (S : Declared) (L : LL.Laws S) (pl : Plains (fields S)) {M : Type 1} {�
       qed 𝓛 (‵ (fat full_share ty l 0 v) ∷ []) ∵
       use1 𝓛 (‵ (cell_at full_share (row S).mir (v ∷ []) l 0)) (𝓛.laws.at_raw full_share ty l 0 v) $
       owned ! (row S) (Is (row S)) (LL.makes S pl 𝓛) t _ is $ move ! (1 ∷ 0 ∷ []) $ fjoin ! $
-      fpack ! (List Val) (λ us. fsep (cell_at full_share (row S).mir us l 0) ((row S).own t us)) (v ∷ []) $ done !
+      fpack ! (List Val) (λ us. fsep (cell_at full_share (row S).mir us l 0) ((row S).own_val t us)) (v ∷ []) $ done !
 
   pub lies_out : ent 𝓤 (sem 𝓛 ((mem (row S)).own_at t l 0)) (guard 𝓤 (Is (row S) t (v ∷ [])) (H.at full_share ty l 0 v))
   unfolding part_of

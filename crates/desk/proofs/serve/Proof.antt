@@ -14,7 +14,7 @@ use lib.Dec.{T as Holds, ltb→lt, lit<}
 use lib.ListN.{length, take as firstOnes}
 use lib.WfN.{lt-wf_rel}
 use seplogic.Ra.Ura.{Ura}
-use seplogic.Ra.TreeShare.{full_share}
+use base.Fraction.{full_share}
 use mir.MapTy.{map_body}
 use mir.Syntax.{Ty, Body as Code, named, erased, imm, mut, w8, w64, ty_int, ty_bool, ty_unit, ty_ref, skip as skipᴹ, seq, assign, block, loop, cond, switch, exit}
 use mir.Syntax.{return, call}

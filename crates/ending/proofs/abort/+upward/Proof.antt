@@ -12,7 +12,7 @@ use lib.Dec.{T as Holds, eqb, eqb→eq, eqb_refl, T_not}
 use lib.WfN.{lt-wf_rel}
 use lib.NonEmpty.{one as one⁺}
 use seplogic.Ra.Ura.{Ura}
-use seplogic.Ra.TreeShare.{full_share}
+use base.Fraction.{full_share}
 use mir.Syntax.{Ty, named, erased, mut, w8, ty_int, ty_bool, ty_unit, ty_ref}
 use mir.Val.{Val, vunit, vint, vptr, has_ty, WT}
 use base.Logic.{SProp, ent, id⊢, snd∗, ex_e}

@@ -6,7 +6,7 @@ use mathlib.Core.List.{List, [], ◌∷◌}
 use lib.Dec.{lit<}
 use lib.IntN.{ℤ, pos}
 use seplogic.Ra.Ura.{Ura}
-use seplogic.Ra.TreeShare.{full_share}
+use base.Fraction.{full_share}
 use mir.Syntax.{Width, int_big, named, w32}
 use mir.Val.{Val, vunit, vint, vptr, Fits}
 use base.Logic.{SProp, ent, sep, emp, via, fst∗, id⊢, guard_i}
