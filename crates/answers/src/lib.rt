@@ -5,7 +5,7 @@
 
 
 // An answer: refused by a number of document 01, or accepted with a result.
-#[derive(Drop)]
+#[derive(Clone, Copy)]
 pub enum Outcome {
     Refused(u8),
     Accepted(u8),

@@ -11,7 +11,7 @@ ghost use Rattle.calls.specs.Calls.{arrival_of, arrival, numbers};
 use answers::Outcome;
 
 // A call: which it is, and its fields, used or not.
-#[derive(Drop)]
+#[derive(Clone, Copy)]
 pub struct Call {
     pub code: u8,
     pub kind: u8,
@@ -22,7 +22,7 @@ pub struct Call {
 }
 
 // What the bytes of a call are: a call, or refused by a number because they are not 16.
-#[derive(Drop)]
+#[derive(Clone, Copy)]
 pub enum Arrival {
     Came(Call),
     Cut(u8),
@@ -30,7 +30,7 @@ pub enum Arrival {
 
 // The three numbers of an answer: refusal (0 if accepted), result, running task afterwards (0 if idle).
 #[repr(C)]
-#[derive(Drop)]
+#[derive(Clone, Copy)]
 pub struct Answer {
     pub refusal: u8,
     pub result: u8,

@@ -7,7 +7,7 @@ use crate::scan;
 use faults::{Fault, Scan};
 
 // A set, and the scan behind it.
-#[derive(Drop)]
+#[derive(Clone, Copy)]
 pub struct Events {
     pub set: u64,
     pub scan: Scan,

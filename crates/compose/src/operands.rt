@@ -10,7 +10,7 @@ use calls::Call;
 use faults::{Fault, Scan};
 
 // The numbers, and the scan behind them: they count only where nothing was wrong. Numbers that a line does not name are 0, and so is the code.
-#[derive(Drop)]
+#[derive(Clone, Copy)]
 pub struct Operands {
     pub call: Call,
     pub scan: Scan,

@@ -15,7 +15,7 @@ use text::word::Word;
 
 // The line so far and its number; the image so far, and whether `every` and `events` were given; whether calls have begun, and how many were written;
 // whether to go on.
-#[derive(Drop)]
+#[derive(Clone, Copy)]
 pub struct Session {
     pub line: [u8; 200],
     pub length: usize,

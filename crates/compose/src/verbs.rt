@@ -9,7 +9,7 @@ use text::word;
 use text::word::Word;
 
 // What follows a first word: `operands` reads it.
-#[derive(Drop)]
+#[derive(Clone, Copy)]
 pub enum Shape {
     Unknown,
     Every,
@@ -27,14 +27,14 @@ pub enum Shape {
 }
 
 // The code of a line's call, 0 for none, and what follows its first word.
-#[derive(Drop)]
+#[derive(Clone, Copy)]
 pub struct Verb {
     pub code: u8,
     pub shape: Shape,
 }
 
 // A row: the first word, filled up with blanks; the code; what follows.
-#[derive(Drop)]
+#[derive(Clone, Copy)]
 struct Row([u8; 8], u8, Shape);
 
 // A new line of a session is a row, here and in docs/WORDS.md.

@@ -16,7 +16,7 @@ use tables::Tables;
 use telling::Wish;
 
 // What was read of one call: the bytes, and how many of the 16 came before the input ended.
-#[derive(Drop)]
+#[derive(Clone, Copy)]
 pub struct Taken {
     pub bytes: [u8; 16],
     pub count: usize,

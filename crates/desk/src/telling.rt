@@ -6,7 +6,7 @@ use lines::Line;
 use tables::Tables;
 
 // What is asked for: nothing more, words (`--explain`), or the readings that a call has changed (`--since`).
-#[derive(Drop)]
+#[derive(Clone, Copy)]
 pub enum Wish {
     Numbers,
     Words,

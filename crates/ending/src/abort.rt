@@ -10,7 +10,7 @@ use crate::finish;
 use tables::Tables;
 
 // What one step of the abort leaves: the tables, and the parent that the task had, or 0.
-#[derive(Drop)]
+#[derive(Clone, Copy)]
 struct Gone {
     tables: Tables,
     parent: u8,

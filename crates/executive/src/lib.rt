@@ -21,7 +21,7 @@ use pools::{LOWEST_START, SMALLEST_HOLE};
 use tables::Tables;
 
 // What is had after a load or a call: the tables, and the three numbers of the answer.
-#[derive(Drop)]
+#[derive(Clone, Copy)]
 pub struct After {
     pub tables: Tables,
     pub answer: Answer,

@@ -6,7 +6,7 @@ ghost use Rattle.faults.specs.Scans.{Inside};
 use libc::STDERR_FILENO;
 
 // What is wrong with a word, or with the line.
-#[derive(Drop)]
+#[derive(Clone, Copy)]
 pub enum Fault {
     Fine,
     Unknown,
@@ -32,7 +32,7 @@ pub enum Fault {
 }
 
 // Where the next word is looked for; what is wrong, and the word that is; the number read last, 0 where the last word was none.
-#[derive(Drop)]
+#[derive(Clone, Copy)]
 pub struct Scan {
     pub at: usize,
     pub fault: Fault,

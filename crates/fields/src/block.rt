@@ -100,7 +100,7 @@ fn since_right(clock: u32, x: Task) -> bool
 
 // What the tables say of a used task block besides its fields: the level and the units of its module; the queue in which it stands; whether it runs;
 // whether the free set has it; whether the request that it names is its own and pending; whether any such request is.
-#[derive(Drop)]
+#[derive(Clone, Copy)]
 pub struct Told {
     pub level: u8,
     pub units: u8,

@@ -11,7 +11,7 @@ use image::Entry;
 use tables::{Request, Tables};
 
 // Whether the request blocks pass, and the tasks that have a request pending, as a set.
-#[derive(Drop)]
+#[derive(Clone, Copy)]
 pub struct Asked {
     pub right: bool,
     pub owners: u32,

@@ -12,7 +12,7 @@ use text::decimals;
 const ROOM: usize = 640;
 
 // The bytes, and how many of them there are so far.
-#[derive(Drop)]
+#[derive(Clone, Copy)]
 pub struct Line {
     pub bytes: [u8; ROOM],
     pub used: usize,

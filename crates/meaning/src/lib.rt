@@ -7,14 +7,14 @@ use answers::Outcome;
 use tables::Tables;
 
 // What an accepted call gives: the tables, before the dispatch, and the result.
-#[derive(Drop)]
+#[derive(Clone, Copy)]
 pub struct Given {
     pub tables: Tables,
     pub result: u8,
 }
 
 // What a step gives: the tables as it leaves them, and the answer. The third number of the answer is the task that runs in them.
-#[derive(Drop)]
+#[derive(Clone, Copy)]
 pub struct Step {
     pub tables: Tables,
     pub outcome: Outcome,

@@ -11,7 +11,7 @@ ghost use Rattle.std.specs.Prelude.{◌≤◌, length, true, ◌≡◌};
 ghost use Rattle.pipes.specs.Filled.{Reached, Filled};
 
 // How many bytes came, and whether it is a failure that ended them.
-#[derive(Drop)]
+#[derive(Clone, Copy)]
 pub struct Got {
     pub count: usize,
     pub failed: bool,

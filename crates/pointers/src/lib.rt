@@ -41,7 +41,7 @@ fn rest_clear(t: Threads, marks: [u8; CELLS]) -> bool
 }
 
 // Whether the pointers are sound; and the queue of each block. Where they are not sound, no block stands in a queue.
-#[derive(Drop)]
+#[derive(Clone, Copy)]
 pub struct Standing {
     pub sound: bool,
     pub marks: [u8; CELLS],

@@ -16,7 +16,7 @@ pub const LOWEST_START: u64 = 0;
 pub const SMALLEST_HOLE: u64 = 1;
 
 // The start that a grant takes; or no free run is long enough.
-#[derive(Drop)]
+#[derive(Clone, Copy)]
 pub enum Found {
     At(u8),
     Nowhere,

@@ -9,7 +9,7 @@ use tables::Tables;
 use words::sets64;
 
 // The blocks that are a task's parent, and those that are the parent of two.
-#[derive(Drop)]
+#[derive(Clone, Copy)]
 pub struct Parents {
     pub one: u64,
     pub two: u64,
@@ -17,7 +17,7 @@ pub struct Parents {
 
 // What one look at each task block tells: the parents, the LINK waiters, whether each chain of parents ends, and level by level the units that a run
 // has and those that two have.
-#[derive(Drop)]
+#[derive(Clone, Copy)]
 pub struct Links {
     pub parents: Parents,
     pub waits: u64,

@@ -22,7 +22,7 @@ use threads::Threads;
 // count and events are the condition of an event waiter, time that of a time waiter, request what a task in CHECK waits for.
 // since: the clock reading at which it entered the place in which it waits; 0 where it does not wait.
 #[repr(C)]
-#[derive(Drop)]
+#[derive(Clone, Copy)]
 pub struct Task {
     pub events: u64,
     pub time: u32,
@@ -38,7 +38,7 @@ pub struct Task {
 
 // place: a number of names.rt. command: the call's code, 13 or 14.
 #[repr(C)]
-#[derive(Drop)]
+#[derive(Clone, Copy)]
 pub struct Request {
     pub place: u8,
     pub owner: u8,
@@ -52,7 +52,7 @@ pub struct Request {
 // running, channel: the block that runs, and the one on the channel; 0 for none.
 // holes: the rule by which core is granted, a number of `pools`. It is as wide as leaves no byte behind it.
 #[repr(C)]
-#[derive(Drop)]
+#[derive(Clone, Copy)]
 pub struct Tables {
     pub directory: Directory,
     pub on: u64,

@@ -3,7 +3,7 @@ ghost use Rattle.std.specs.Prelude.{◌≡◌, ◌+◌, ◌-◌, ◌*◌, leb};
 ghost use Rattle.text.specs.Decimals.{is_digit, all_digits, value_of, at_most, number_of, plain as is_plain, Spells};
 
 // What bytes are as a number: its value, more than was asked for, or no number.
-#[derive(Drop)]
+#[derive(Clone, Copy)]
 pub enum Number {
     Value(u64),
     Large,
@@ -11,7 +11,7 @@ pub enum Number {
 }
 
 // The digits of a number, and how many of the bytes they are.
-#[derive(Drop)]
+#[derive(Clone, Copy)]
 pub struct Spelled {
     pub bytes: [u8; 20],
     pub count: usize,

@@ -1,0 +1,6 @@
+-- `passes` meets its contract.
+use borrow.Author.Rules.{rules}
+use Rattle.sealed.proofs.passes.Goals as goal
+
+pub returns : goal.returns
+returns c = rw (c.number.ensures, c.check.ensures)
