@@ -2,7 +2,7 @@
 -- All lists stand in one row, `flat`, so that this is one number more between a part P of the row and the rest S, whatever the queue.
 use mathlib.Core.Path.{◌≡◌, refl, sym, ap, ◌∙◌}
 use mathlib.Core.List.{List, [], ◌∷◌, ◌++◌, map, append_assoc}
-use Prim.Native.Nat.{ℕ, zero, suc, ◌+◌, ◌≤◌}
+use Prim.Native.Nat.{ℕ, zero, suc, ◌≤◌}
 use native.Mathlib.Omega.{arith}
 use lib.ListN.{set, take, drop}
 use lib.Seq.{map-set_same, append_snoc}
