@@ -3,7 +3,6 @@
 // It has the type alone; its numbers, as document 01 has them, are in specs/. It knows nothing of images, calls or tables.
 #![tactic(auto)]
 
-
 // An answer: refused by a number of document 01, or accepted with a result.
 #[derive(Clone, Copy)]
 pub enum Outcome {

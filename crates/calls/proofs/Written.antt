@@ -7,7 +7,7 @@ use Prim.Native.Nat.{ℕ, zero, suc, ◌+◌, ◌-◌, ◌≤◌, ◌<◌, ◌^�
 use native.Mathlib.Omega.{arith}
 use lib.ListN.{length, get_or}
 use lib.Seq.{ext_get_or}
-use Rattle.words.specs.Bytes.{number, digit}
+use Rattle.words.specs.Bytes.{digit}
 use Rattle.words.proofs.Numbers.{number_digits, digit-number}
 use Rattle.words.proofs.Places.{under-or-from}
 use Rattle.calls.specs.Calls.{call_of, arrival}

@@ -1,7 +1,6 @@
 -- `numbers` meets its contract, case by case.
 use borrow.Author.Tests.{eq-eqb, ne_eqb}
 use Rattle.calls.specs.Calls.{numbers}
-use borrow.Author.Rules.{rules}
 use Rattle.calls.proofs.numbers.Goals as goal
 
 pub returns-in-Accepted : goal.returns-in-Accepted

@@ -2,7 +2,6 @@
 use borrow.Author.Tests.{eq-eqb, ne_eqb}
 use Rattle.words.proofs.Numbers.{number-below}
 use Rattle.calls.specs.Calls.{call_of, arrival}
-use borrow.Author.Rules.{rules}
 use Rattle.calls.proofs.read.Goals as goal
 
 pub returns-then-bytes-ne16 : goal.returns-then-bytes-ne16

@@ -3,7 +3,7 @@ use Prim.Native.Nat.{◌-◌}
 use native.Mathlib.Omega.{arith}
 use borrow.Author.Rules.{rules}
 use Rattle.sealed.specs.Sealed.{check_of}
-use Rattle.sealed.proofs.Sums.{Running, running-start, running-next, running-end}
+use Rattle.sealed.proofs.Sums.{running-start, running-next, running-end}
 use Rattle.sealed.proofs.check.Goals as goal
 
 pub loop-i-init : goal.loop-i-init

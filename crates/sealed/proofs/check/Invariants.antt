@@ -1,9 +1,5 @@
 -- `check` meets its contract: the loop is `downward`, which gives the weighted sum, and both sums stay low, `Running`.
-use Prim.Native.Nat.{◌-◌}
-use native.Mathlib.Omega.{arith}
-use borrow.Author.Rules.{rules}
-use Rattle.sealed.specs.Sealed.{check_of}
-use Rattle.sealed.proofs.Sums.{Running, running-start, running-next, running-end}
+use Rattle.sealed.proofs.Sums.{Running}
 use Rattle.sealed.proofs.check.Given as goal
 
 abbrev pub invariant-loop-i : goal.invariant-loop-i

@@ -1,5 +1,4 @@
 -- `passes` meets its contract.
-use borrow.Author.Rules.{rules}
 use Rattle.sealed.proofs.passes.Goals as goal
 
 pub returns : goal.returns

@@ -1,10 +1,9 @@
 -- `zeros` meets its contract: the loop gathers the test, `gather-next`.
-use mathlib.Core.Path.{◌≡◌, refl}
-use Prim.Native.Nat.{ℕ, suc, ◌+◌, ◌-◌, ◌*◌, ◌≤◌, ◌<◌}
+use mathlib.Core.Path.{refl}
+use Prim.Native.Nat.{ℕ, suc, ◌+◌, ◌*◌, ◌≤◌, ◌<◌}
 use native.Mathlib.Nat.{mul-suc, mul-le-mul_left}
 use native.Mathlib.Omega.{arith}
 use borrow.Author.Rules.{rules}
-use Rattle.words.specs.Words.{below, all_of}
 use Rattle.words.proofs.Lists.{gather-start, gather-next, gather-end}
 use Rattle.sealed.specs.Sealed.{zero_at}
 use Rattle.sealed.proofs.zeros.Goals as goal

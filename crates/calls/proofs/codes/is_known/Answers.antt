@@ -1,6 +1,5 @@
 -- `codes::is_known` meets its contract: the entry says so.
 use Rattle.calls.proofs.Entries.{entry_known}
-use borrow.Author.Rules.{rules}
 use Rattle.calls.proofs.codes.is_known.Goals as goal
 
 pub returns : goal.returns

@@ -1,6 +1,5 @@
 -- `codes::needs_task` meets its contract: the entry says so.
 use Rattle.calls.proofs.Entries.{entry-needs}
-use borrow.Author.Rules.{rules}
 use Rattle.calls.proofs.codes.needs_task.Goals as goal
 
 pub returns : goal.returns
