@@ -5,7 +5,7 @@ use Prim.Native.Nat.{ℕ, ◌+◌, ◌-◌, ◌≤◌}
 use native.Mathlib.Omega.{arith}
 use lib.ListN.{length, take, drop, length-drop}
 use lib.Seq.{take_all}
-use Rattle.text.specs.Words.{First, first_word}
+use Rattle.text.specs.Words.{First}
 use Rattle.text.specs.declared.word.Word.{Word}
 use Rattle.phrases.specs.Words.{Next}
 

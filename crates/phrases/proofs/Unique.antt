@@ -1,8 +1,7 @@
 -- No second answer: any two results that meet a function's promise are the same. `Post` is the promise itself, as the contract in the source states it: of the
 -- arguments, the result, and the parameters at exit.
-use mathlib.Core.Bool.{Bool, true, false, true≢false}
-use mathlib.Core.Path.{◌≡◌, refl, ap, sym, ◌∙◌}
-use Prim.Native.Nat.{ℕ}
+use mathlib.Core.Bool.{Bool, true, false}
+use mathlib.Core.Path.{◌≡◌, refl, sym, ◌∙◌}
 use Rattle.words.proofs.Once.{OneAnswer}
 use Rattle.text.specs.declared.word.Word.{Word}
 use Rattle.phrases.proofs.next.Reads as next
