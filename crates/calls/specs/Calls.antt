@@ -1,6 +1,6 @@
 -- Document 01, 'Calls': the bytes of a call, the codes, the answer.
-use Rattle.std.specs.Prelude.{Bool, ◌||◌, List, [], ◌∷◌, ℕ, length, get_or, eqb}
-use Rattle.words.specs.Words.{if◌then◌else◌, ◌among◌}
+use Rattle.std.specs.Prelude.{Bool, ◌||◌, List, [], ◌∷◌, ℕ, length, get_or, eqb, if◌then◌else◌}
+use Rattle.words.specs.Words.{◌among◌}
 use Rattle.words.specs.Bytes.{number}
 use Rattle.answers.specs.declared.Outcome.{Outcome}
 use Rattle.answers.specs.Answer.{refusal_of, result_of}

@@ -1,6 +1,5 @@
 -- What an image line changes.
-use Rattle.std.specs.Prelude.{ℕ, ◌+◌, set, nat_lt}
-use Rattle.words.specs.Words.{if◌then◌else◌}
+use Rattle.std.specs.Prelude.{ℕ, ◌+◌, set, nat_lt, if◌then◌else◌}
 use Rattle.calls.specs.declared.Call.{Call}
 use Rattle.image.specs.declared.Directory.{Directory}
 use Rattle.image.specs.declared.Entry.{Entry}

@@ -1,8 +1,8 @@
 -- The rules over one block, gathered: what a task block and a request block pass in one turn of a loop.
-use Rattle.std.specs.Prelude.{Bool, not, ◌&&◌, ◌||◌, ◌≡◌, List, [], ◌∷◌, ℕ, ◌+◌, ◌≤◌, ◌^◌, eqb, leb, ltb, get_or}
+use Rattle.std.specs.Prelude.{Bool, not, ◌&&◌, ◌||◌, ◌≡◌, List, [], ◌∷◌, ℕ, ◌+◌, ◌≤◌, ◌^◌, eqb, leb, ltb, get_or, if◌then◌else◌}
 use Rattle.std.specs.Bool.{beq}
 use Rattle.std.specs.Int.Bits.{bit_and}
-use Rattle.words.specs.Words.{if◌then◌else◌, ◌implies◌, all_of, some_of, one_to, standing, all_true, has, size}
+use Rattle.words.specs.Words.{◌implies◌, all_of, some_of, one_to, standing, all_true, has, size}
 use Rattle.pools.specs.Pools.{SmallestHole}
 use Rattle.tables.specs.declared.Task.{Task}
 use Rattle.tables.specs.declared.Request.{Request}

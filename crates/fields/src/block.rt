@@ -1,6 +1,6 @@
 // The rules over one block: each a function of the block and of numbers, and never of the tables.
-ghost use Rattle.std.specs.Prelude.{◌≡◌, not, ◌&&◌, ◌||◌, ◌≢◌, ℕ, ◌≤◌, eqb, leb};
-ghost use Rattle.words.specs.Words.{if◌then◌else◌, has};
+ghost use Rattle.std.specs.Prelude.{◌≡◌, not, ◌&&◌, ◌||◌, ◌≢◌, ℕ, ◌≤◌, eqb, leb, if◌then◌else◌};
+ghost use Rattle.words.specs.Words.{has};
 ghost use Rattle.meaning.specs.Rules.{request_in_range, queue_for, blank_task, blank_request};
 ghost use Rattle.fields.specs.Blocks.{fields_right, core_right, own_right, place_right, waiter_right, since_right, pends, pending_right, used_by, request_right};
 

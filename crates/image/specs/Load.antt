@@ -1,6 +1,6 @@
 -- Document 01, 'Phase image': loading.
-use Rattle.std.specs.Prelude.{not, List, [], ◌∷◌, ◌++◌, map, ℕ, ◌+◌, ◌*◌, length, get_or, eqb}
-use Rattle.words.specs.Words.{if◌then◌else◌, below}
+use Rattle.std.specs.Prelude.{not, List, [], ◌∷◌, ◌++◌, map, ℕ, ◌+◌, ◌*◌, length, get_or, eqb, if◌then◌else◌}
+use Rattle.words.specs.Words.{below}
 use Rattle.words.specs.Bytes.{number}
 use Rattle.words.specs.Rows.{Row, ◌when◌, first_of}
 use Rattle.sealed.specs.Sealed.{passes}

@@ -1,6 +1,6 @@
 -- Document 01, 'Phase image': writing. "Writing takes a directory and a lent buffer."
-use Rattle.std.specs.Prelude.{not, List, ◌∷◌, map, ℕ, ◌-◌, ◌/◌, ◌%◌, ◌<◌, length, eqb, ltb}
-use Rattle.words.specs.Words.{if◌then◌else◌, below}
+use Rattle.std.specs.Prelude.{not, List, ◌∷◌, map, ℕ, ◌-◌, ◌/◌, ◌%◌, ◌<◌, length, eqb, ltb, if◌then◌else◌}
+use Rattle.words.specs.Words.{below}
 use Rattle.words.specs.Bytes.{digit}
 use Rattle.words.specs.Rows.{Row, ◌when◌, first_of}
 use Rattle.sealed.specs.Sealed.{sealed}

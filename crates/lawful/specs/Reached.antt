@@ -1,6 +1,5 @@
 -- What the statements of `demands` are about, besides the meaning: the tables that are reached, who is next for the processor, and whom an abort takes.
-use Rattle.std.specs.Prelude.{◌≡◌, List, [], ◌∷◌, ℕ, zero, suc, ◌≤◌, ◌<◌, eqb}
-use Rattle.words.specs.Words.{if◌then◌else◌}
+use Rattle.std.specs.Prelude.{◌≡◌, List, [], ◌∷◌, ℕ, zero, suc, ◌≤◌, ◌<◌, eqb, if◌then◌else◌}
 use Rattle.answers.specs.Answer.{refusal_of}
 use Rattle.image.specs.Load.{load_of}
 use Rattle.pools.specs.Pools.{SmallestHole}

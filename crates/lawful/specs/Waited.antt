@@ -1,6 +1,5 @@
 -- Document 02, E6: "The day shift asks how long a task has been stuck." The words of its theorem.
-use Rattle.std.specs.Prelude.{◌&&◌, ◌≡◌, ◌⊎◌, List, [], ◌∷◌, ◌++◌, ℕ, ◌+◌, eqb}
-use Rattle.words.specs.Words.{if◌then◌else◌}
+use Rattle.std.specs.Prelude.{◌&&◌, ◌≡◌, ◌⊎◌, List, [], ◌∷◌, ◌++◌, ℕ, ◌+◌, eqb, if◌then◌else◌}
 use Rattle.answers.specs.Answer.{refusal_of}
 use Rattle.tables.specs.declared.Tables.{Tables}
 use Rattle.tables.specs.Blocks.{Free, Ready, Running}

@@ -1,6 +1,6 @@
 -- Lines, as the bytes that are written. Document 01, 'A session in full': "It writes a line for the load (refusal, M or 0, 0), then one per call".
-use Rattle.std.specs.Prelude.{List, [], ◌∷◌, ◌++◌, ◌≡◌, ℕ, zero, suc, ◌+◌, ◌≤◌, length, take}
-use Rattle.words.specs.Words.{if◌then◌else◌, has}
+use Rattle.std.specs.Prelude.{List, [], ◌∷◌, ◌++◌, ◌≡◌, ℕ, zero, suc, ◌+◌, ◌≤◌, length, take, if◌then◌else◌}
+use Rattle.words.specs.Words.{has}
 use Rattle.text.specs.Decimals.{spelling}
 use Rattle.calls.specs.declared.Answer.{Answer}
 use Rattle.lines.specs.declared.Line.{Line}

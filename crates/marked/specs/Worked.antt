@@ -1,6 +1,6 @@
 -- The words that the meaning is written in, at numbers that can be checked by hand: bytes, sets, pools and queues, each line as in 'Either side of the line'.
-use Rattle.std.specs.Prelude.{Bool, List, [], ◌∷◌, ◌++◌, ℕ, ◌+◌, ◌-◌, ◌^◌, get_or, replicate, set}
-use Rattle.words.specs.Words.{if◌then◌else◌, has, adding, dropping, size, least, inserted_by}
+use Rattle.std.specs.Prelude.{Bool, List, [], ◌∷◌, ◌++◌, ℕ, ◌+◌, ◌-◌, ◌^◌, get_or, replicate, set, if◌then◌else◌}
+use Rattle.words.specs.Words.{has, adding, dropping, size, least, inserted_by}
 use Rattle.words.specs.Bytes.{number, digit}
 use Rattle.threads.specs.declared.Threads.{Threads}
 use Rattle.threads.specs.Threads.{threaded, walk, hd, lst, without, insert_before, queues_of, queue_in}

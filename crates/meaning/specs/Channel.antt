@@ -1,7 +1,7 @@
 -- Document 01, 'What each call does': the channel.
-use Rattle.std.specs.Prelude.{not, ◌&&◌, ℕ, eqb}
+use Rattle.std.specs.Prelude.{not, ◌&&◌, ℕ, eqb, if◌then◌else◌}
 use Rattle.threads.specs.Threads.{hd}
-use Rattle.words.specs.Words.{if◌then◌else◌, is_empty, inserted_by}
+use Rattle.words.specs.Words.{is_empty, inserted_by}
 use Rattle.tables.specs.Blocks.{OnChannel, moving_request}
 use Rattle.tables.specs.State.{State, channel_queue, node, request_of, with_channel, with_request, with_queue, request_at, queue, level_of, leaving}
 

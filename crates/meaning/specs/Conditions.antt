@@ -1,7 +1,7 @@
 -- Document 01, 'Conditions and getting ready', first paragraph: conditions, and waiting for one.
-use Rattle.std.specs.Prelude.{Bool, true, not, ℕ, ◌+◌, eqb, leb}
+use Rattle.std.specs.Prelude.{Bool, true, not, ℕ, ◌+◌, eqb, leb, if◌then◌else◌}
 use Rattle.std.specs.Int.Bits.{bit_and}
-use Rattle.words.specs.Words.{if◌then◌else◌, inserted_by, size}
+use Rattle.words.specs.Words.{inserted_by, size}
 use Rattle.tables.specs.Blocks.{awaiting_events, awaiting_time}
 use Rattle.tables.specs.State.{State, event_queue, time_queue, with_task, with_queue, task_at, queue, joining}
 use Rattle.calls.specs.declared.Call.{Call}

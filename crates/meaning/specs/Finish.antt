@@ -1,6 +1,6 @@
 -- Document 01, 'What each call does': giving core back, finishing, ending, aborting.
-use Rattle.std.specs.Prelude.{Bool, ◌&&◌, ◌||◌, ℕ, zero, suc, ◌-◌, eqb}
-use Rattle.words.specs.Words.{if◌then◌else◌, one_to, some_of, each, adding}
+use Rattle.std.specs.Prelude.{Bool, ◌&&◌, ◌||◌, ℕ, zero, suc, ◌-◌, eqb, if◌then◌else◌}
+use Rattle.words.specs.Words.{one_to, some_of, each, adding}
 use Rattle.tables.specs.Blocks.{request_blocks, Ending, Queued, OnChannel, Done, HoldsRun, GaveBack, no_task, no_request, with_parent, with_core}
 use Rattle.tables.specs.State.{State, with_free_tasks, with_free_requests, with_pool, with_task, with_request, task_at, request_at, pool_at, level_of, units_of}
 use Rattle.pools.specs.Pools.{run}

@@ -1,7 +1,7 @@
 -- Document 01, 'Conditions and getting ready': core, making a task ready, serving a core queue, dispatching.
-use Rattle.std.specs.Prelude.{Bool, not, ◌&&◌, ◌||◌, List, [], ◌∷◌, ℕ, ◌+◌, eqb, ltb}
+use Rattle.std.specs.Prelude.{Bool, not, ◌&&◌, ◌||◌, List, [], ◌∷◌, ℕ, ◌+◌, eqb, ltb, if◌then◌else◌}
 use Rattle.threads.specs.Threads.{hd}
-use Rattle.words.specs.Words.{if◌then◌else◌, is_empty}
+use Rattle.words.specs.Words.{is_empty}
 use Rattle.pools.specs.Pools.{long_enough, start_of, run}
 use Rattle.tables.specs.Blocks.{Running, Ready, InCore, NotGranted, HoldsRun, moving, with_core}
 use Rattle.tables.specs.State.{State, ready_queue, core_queue, with_running, with_pool, with_task, task_at, pool_at, queue, level_of, units_of, joining, leaving}

@@ -1,11 +1,11 @@
 -- Document 01, 'What each call does', last paragraph: "Table rules, exactly". Each rule is a test of its own under its words; `rules_hold` is all of them.
 -- A rule over one block is a test of the block, with what it needs of its module.
-use Rattle.std.specs.Prelude.{Bool, true, not, ◌&&◌, ◌||◌, List, [], ◌∷◌, ◌++◌, ℕ, zero, suc, ◌+◌, ◌^◌, eqb, leb, ltb}
+use Rattle.std.specs.Prelude.{Bool, true, not, ◌&&◌, ◌||◌, List, [], ◌∷◌, ◌++◌, ℕ, zero, suc, ◌+◌, ◌^◌, eqb, leb, ltb, if◌then◌else◌}
 use Rattle.std.specs.Bool.{beq}
 use Rattle.std.specs.Int.Bits.{bit_and}
 use Rattle.threads.specs.declared.Threads.{Threads}
 use Rattle.threads.specs.Threads.{BLOCKS, hd, counts, threaded, queues_of, no_queue}
-use Rattle.words.specs.Words.{if◌then◌else◌, ◌implies◌, is_empty, below, one_to, all_of, how_many, same_list, up_by, standing, all_true, has, size}
+use Rattle.words.specs.Words.{◌implies◌, is_empty, below, one_to, all_of, how_many, same_list, up_by, standing, all_true, has, size}
 use Rattle.words.specs.Rows.{first_of}
 use Rattle.image.specs.declared.Directory.{Directory}
 use Rattle.image.specs.Directory.{directory_rows}

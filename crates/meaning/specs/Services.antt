@@ -1,6 +1,6 @@
 -- Document 01, 'What each call does': each accepted call, before the dispatch at its end.
-use Rattle.std.specs.Prelude.{not, ◌&&◌, List, [], ◌∷◌, ℕ, ◌+◌, ◌%◌, eqb, leb, ltb}
-use Rattle.words.specs.Words.{if◌then◌else◌, each, has, adding, dropping, least}
+use Rattle.std.specs.Prelude.{not, ◌&&◌, List, [], ◌∷◌, ℕ, ◌+◌, ◌%◌, eqb, leb, ltb, if◌then◌else◌}
+use Rattle.words.specs.Words.{each, has, adding, dropping, least}
 use Rattle.tables.specs.Blocks.{task_blocks, Ready, InLink, InCheck, Ending, Queued, Done, request, new_task, awaiting_request}
 use Rattle.tables.specs.State.{State, ready_queue, event_queue, time_queue, with_clock, with_on, with_signalled, with_running, with_channel, with_free_tasks, with_free_requests, with_task, with_request, task_at, request_at, queue, level_of, leading, leaving}
 use Rattle.calls.specs.declared.Call.{Call}

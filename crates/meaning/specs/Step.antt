@@ -1,6 +1,5 @@
 -- One call, whole: what the step has to give, for any tables and any bytes. And what loading gives.
-use Rattle.std.specs.Prelude.{List, ℕ, eqb}
-use Rattle.words.specs.Words.{if◌then◌else◌}
+use Rattle.std.specs.Prelude.{List, ℕ, eqb, if◌then◌else◌}
 use Rattle.words.specs.Rows.{first_of}
 use Rattle.answers.specs.Answer.{refusal_of, outcome_of}
 use Rattle.image.specs.Load.{load_of}

@@ -1,6 +1,6 @@
 -- Ranges of events, as docs/WORDS.md has them.
-use Rattle.std.specs.Prelude.{ℕ, zero, suc, leb}
-use Rattle.words.specs.Words.{if◌then◌else◌, adding}
+use Rattle.std.specs.Prelude.{ℕ, zero, suc, leb, if◌then◌else◌}
+use Rattle.words.specs.Words.{adding}
 
 -- the set with the events from `first` to n - 1 put into it
 unfoldable pub ranged : ℕ → ℕ → ℕ → ℕ

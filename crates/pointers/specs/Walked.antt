@@ -1,8 +1,8 @@
 -- What the walk along the pointers tells: whether they are sound, and the queue in which each block stands. A block of no queue has the mark `no_queue`.
-use Rattle.std.specs.Prelude.{Bool, true, false, ◌&&◌, ◌≡◌, List, ℕ, suc, ◌+◌, ◌-◌, ◌≤◌, length, get_or, replicate, eqb}
+use Rattle.std.specs.Prelude.{Bool, true, false, ◌&&◌, ◌≡◌, List, ℕ, suc, ◌+◌, ◌-◌, ◌≤◌, length, get_or, replicate, eqb, if◌then◌else◌}
 use Rattle.threads.specs.declared.Threads.{Threads}
 use Rattle.threads.specs.Threads.{queues_of, Sound, BLOCKS, QUEUES, no_queue}
-use Rattle.words.specs.Words.{if◌then◌else◌, ◌implies◌, one_to, all_of, standing}
+use Rattle.words.specs.Words.{◌implies◌, one_to, all_of, standing}
 use Rattle.meaning.specs.Rules.{pointers_sound}
 
 -- a block that is marked with no queue has no pointers

@@ -1,8 +1,7 @@
 -- ==== Inside: words for contracts below the public face. What the executive, its library and the demands claim does not rest on them.
 -- Document 01, 'Conditions and getting ready': "no free run is long enough; otherwise it gets the units from" a start, by the rule that the tables name.
-use Rattle.std.specs.Prelude.{ℕ, ltb}
+use Rattle.std.specs.Prelude.{ℕ, ltb, if◌then◌else◌}
 use Rattle.std.specs.Int.Count.{count_trailing_zeros}
-use Rattle.words.specs.Words.{if◌then◌else◌}
 use Rattle.pools.specs.declared.Found.{Found}
 use Rattle.pools.specs.declared.Found.TheVariants.{At, Nowhere}
 use Rattle.pools.specs.Pools.{start_of}

@@ -1,7 +1,7 @@
 -- Document 01, 'Sizes': "Each level has a core pool of 64 units, one bit for each unit." And 'Conditions and getting ready': the start of a run.
 -- Document 02, E8, puts another start in its place; the tables say which of the two rules a grant follows.
-use Rattle.std.specs.Prelude.{Bool, not, ◌&&◌, ◌||◌, ℕ, ◌+◌, ◌-◌, ◌*◌, ◌^◌, eqb, leb, ltb}
-use Rattle.words.specs.Words.{if◌then◌else◌, below, all_of, some_of, lowest, has}
+use Rattle.std.specs.Prelude.{Bool, not, ◌&&◌, ◌||◌, ℕ, ◌+◌, ◌-◌, ◌*◌, ◌^◌, eqb, leb, ltb, if◌then◌else◌}
+use Rattle.words.specs.Words.{below, all_of, some_of, lowest, has}
 
 -- the unit u is one of a run: of n units from the start a on
 abbrev pub in_run : ℕ → ℕ → ℕ → Bool

@@ -1,7 +1,6 @@
 -- What is told of the readings of tasks. Document 02, E6: "Every task block gets the clock reading at which it last entered any waiting queue, core, LINK, CHECK
 -- and ending too, and 0 while free, ready or running."
-use Rattle.std.specs.Prelude.{Bool, not, ◌&&◌, ◌||◌, List, [], ◌∷◌, ◌++◌, ℕ, zero, suc, eqb}
-use Rattle.words.specs.Words.{if◌then◌else◌}
+use Rattle.std.specs.Prelude.{Bool, not, ◌&&◌, ◌||◌, List, [], ◌∷◌, ◌++◌, ℕ, zero, suc, eqb, if◌then◌else◌}
 use Rattle.text.specs.Decimals.{spelling}
 use Rattle.tables.specs.Blocks.{task_blocks, waits_in}
 use Rattle.tables.specs.declared.Task.{Task}

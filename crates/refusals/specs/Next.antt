@@ -1,6 +1,5 @@
 -- The rows of a table gathered from the first on: "The first that applies in the table's order is given."
-use Rattle.std.specs.Prelude.{Bool, ℕ, eqb}
-use Rattle.words.specs.Words.{if◌then◌else◌}
+use Rattle.std.specs.Prelude.{Bool, ℕ, eqb, if◌then◌else◌}
 
 -- the first so far, 0 for none, and then the row `number`
 unfoldable pub next : ℕ → ℕ → Bool → ℕ

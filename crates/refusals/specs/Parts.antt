@@ -1,6 +1,5 @@
 -- The table of refusals in five parts, cut before the rows 12, 22, 13 and 16. A row that comes in between belongs to the part that it falls in.
-use Rattle.std.specs.Prelude.{List, [], ◌∷◌, ℕ, eqb}
-use Rattle.words.specs.Words.{if◌then◌else◌}
+use Rattle.std.specs.Prelude.{List, [], ◌∷◌, ℕ, eqb, if◌then◌else◌}
 use Rattle.words.specs.Rows.{Row}
 use Rattle.tables.specs.State.{State}
 use Rattle.calls.specs.declared.Call.{Call}

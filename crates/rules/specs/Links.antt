@@ -1,7 +1,7 @@
 -- What one look at each task block gathers of links and of core.
-use Rattle.std.specs.Prelude.{Bool, ◌&&◌, ◌≡◌, List, ℕ, ◌≤◌, ◌<◌, ◌^◌, eqb, leb, length, get_or}
+use Rattle.std.specs.Prelude.{Bool, ◌&&◌, ◌≡◌, List, ℕ, ◌≤◌, ◌<◌, ◌^◌, eqb, leb, length, get_or, if◌then◌else◌}
 use Rattle.std.specs.Int.Bits.{bit_and, bit_or}
-use Rattle.words.specs.Words.{if◌then◌else◌, one_to, all_of, how_many, has, adding}
+use Rattle.words.specs.Words.{one_to, all_of, how_many, has, adding}
 use Rattle.tables.specs.Blocks.{InLink}
 use Rattle.tables.specs.State.{State, task_at}
 use Rattle.meaning.specs.Rules.{holds_unit, upward}

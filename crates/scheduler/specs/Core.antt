@@ -1,7 +1,8 @@
 -- Where a newcomer gets its core; what granting core, serving a core queue and giving core back ask.
+use Rattle.std.specs.Prelude.{if◌then◌else◌}
 use Rattle.core.specs.Prelude.{◌≡◌, ℕ, suc, ◌<◌, ◌≤◌}
 use Rattle.threads.specs.Threads.{count, Member}
-use Rattle.words.specs.Words.{if◌then◌else◌, is_empty}
+use Rattle.words.specs.Words.{is_empty}
 use Rattle.pools.specs.declared.Found.{Found}
 use Rattle.pools.specs.Find.{found_at, found_of}
 use Rattle.pools.specs.Runs.{HeldRun}

@@ -1,6 +1,6 @@
 -- Document 01, 'Phase image': "One block of 512 bytes, numbers little-endian", and its check. What holds of every block, whatever its fields say.
-use Rattle.std.specs.Prelude.{Bool, List, ◌++◌, map, ℕ, zero, suc, ◌+◌, ◌*◌, ◌%◌, length, get_or, eqb}
-use Rattle.words.specs.Words.{if◌then◌else◌, below}
+use Rattle.std.specs.Prelude.{Bool, List, ◌++◌, map, ℕ, zero, suc, ◌+◌, ◌*◌, ◌%◌, length, get_or, eqb, if◌then◌else◌}
+use Rattle.words.specs.Words.{below}
 use Rattle.words.specs.Bytes.{number, digit}
 
 -- "the sum of (i+1) times byte i", i from 0 to n - 1

@@ -1,7 +1,7 @@
 -- Document 01, 'Sizes' and 'What each call does': task blocks and request blocks, their places, and how one changes its place.
 -- Every change of a block is one of these few.
-use Rattle.std.specs.Prelude.{Bool, [], ◌∷◌, ℕ}
-use Rattle.words.specs.Words.{if◌then◌else◌, ◌among◌}
+use Rattle.std.specs.Prelude.{Bool, [], ◌∷◌, ℕ, if◌then◌else◌}
+use Rattle.words.specs.Words.{◌among◌}
 use Rattle.tables.specs.declared.Task.{Task}
 use Rattle.tables.specs.declared.Request.{Request}
 

@@ -1,7 +1,7 @@
 -- Numbers in decimal: what bytes mean as a number, and how a number is spelled. 48 is the byte of the digit 0.
-use Rattle.std.specs.Prelude.{Bool, not, ◌&&◌, ◌||◌, List, [], ◌∷◌, ◌++◌, ◌≡◌, ℕ, zero, suc, ◌+◌, ◌-◌, ◌*◌, ◌/◌, ◌%◌, ◌≤◌, eqb, leb, ltb, length, get_or, take}
+use Rattle.std.specs.Prelude.{Bool, not, ◌&&◌, ◌||◌, List, [], ◌∷◌, ◌++◌, ◌≡◌, ℕ, zero, suc, ◌+◌, ◌-◌, ◌*◌, ◌/◌, ◌%◌, ◌≤◌, eqb, leb, ltb, length, get_or, take, if◌then◌else◌}
 use Rattle.io.specs.Counts.{IsPrefixLen}
-use Rattle.words.specs.Words.{if◌then◌else◌, all_of}
+use Rattle.words.specs.Words.{all_of}
 use Rattle.text.specs.declared.decimals.Number.{Number}
 use Rattle.text.specs.declared.decimals.Number.TheVariants.{Value, Large, Other}
 use Rattle.text.specs.declared.decimals.Spelled.{Spelled}

@@ -1,6 +1,5 @@
 -- Words: parted by blanks, with a comma and a dash each a word of its own.
-use Rattle.std.specs.Prelude.{◌||◌, List, [], ◌∷◌, ◌≡◌, ℕ, suc, ◌+◌, ◌≤◌, eqb, length, get_or, drop}
-use Rattle.words.specs.Words.{if◌then◌else◌}
+use Rattle.std.specs.Prelude.{◌||◌, List, [], ◌∷◌, ◌≡◌, ℕ, suc, ◌+◌, ◌≤◌, eqb, length, get_or, drop, if◌then◌else◌}
 use Rattle.text.specs.declared.word.Word.{Word}
 
 -- 1 for a blank (space, tab, carriage return), 2 for a comma or a dash, 0 for any other byte

@@ -1,7 +1,6 @@
 -- ==== Inside: words for contracts below the public face. What the executive, its library and the demands claim does not rest on them.
 -- What the code stores, cell by cell. The contracts of the functions inside cite it, and no public one does.
-use Rattle.std.specs.Prelude.{List, ℕ, set, eqb}
-use Rattle.words.specs.Words.{if◌then◌else◌}
+use Rattle.std.specs.Prelude.{List, ℕ, set, eqb, if◌then◌else◌}
 use Rattle.threads.specs.declared.Threads.{Threads}
 
 -- v stored at the block i, in an array by block; and at the queue q, in an array by queue, where i is 0

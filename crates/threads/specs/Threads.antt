@@ -1,8 +1,8 @@
 -- What a `Threads` means: a list of blocks for each queue, front first. `threaded` makes the pointers of such lists, `queues_of` reads the
 -- lists off pointers, and `Sound` says that the two agree. Document 01: "Task and request blocks carry a forward and a back pointer for the
 -- queue they are on."
-use Rattle.std.specs.Prelude.{◌≡◌, List, [], ◌∷◌, map, ℕ, zero, suc, ◌+◌, ◌≤◌, ◌<◌, length, get_or, eqb}
-use Rattle.words.specs.Words.{if◌then◌else◌, ◌among◌}
+use Rattle.std.specs.Prelude.{◌≡◌, List, [], ◌∷◌, map, ℕ, zero, suc, ◌+◌, ◌≤◌, ◌<◌, length, get_or, eqb, if◌then◌else◌}
+use Rattle.words.specs.Words.{◌among◌}
 use Rattle.threads.specs.declared.Threads.{Threads}
 
 -- how many queues and how many blocks. The blocks are 1 to BLOCKS, and 0 is no block

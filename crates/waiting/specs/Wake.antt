@@ -1,6 +1,5 @@
 -- What waking a task asks, and waking of either queue.
-use Rattle.std.specs.Prelude.{◌≡◌, ◌≢◌, [], ℕ, ◌≤◌, ◌<◌, eqb}
-use Rattle.words.specs.Words.{if◌then◌else◌}
+use Rattle.std.specs.Prelude.{◌≡◌, ◌≢◌, [], ℕ, ◌≤◌, ◌<◌, eqb, if◌then◌else◌}
 use Rattle.threads.specs.Threads.{count, Sound}
 use Rattle.tables.specs.declared.Tables.{Tables}
 use Rattle.tables.specs.State.{State, event_queue, time_queue, queue, read}
