@@ -1,0 +1,8 @@
+-- `free::free_request` meets its contract: the stores are the meaning's.
+use borrow.Author.Rules.{rules}
+use Rattle.meaning.specs.Finish.{freed_request}
+use Rattle.blocks.proofs.free.free_request.Goals as goal
+
+pub returns : goal.returns
+unfolding freed_request
+returns c = record { sound = c.requires.0; reads = rw c.adding.ensures }

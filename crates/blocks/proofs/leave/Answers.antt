@@ -1,0 +1,6 @@
+-- `blocks::leave` meets its contract: only the pointers change, by `remove`.
+use borrow.Author.Rules.{rules}
+use Rattle.blocks.proofs.leave.Goals as goal
+
+pub returns : goal.returns
+returns c = let e = c.remove-h.ensures in record { sound = e.sound; reads = rw e.lists }
