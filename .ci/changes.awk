@@ -1,12 +1,13 @@
 # Prints what a must-fail edit changes: 'program', 'contract' (and nothing else of src/), 'specs', 'proofs', or 'unfit' where it cannot be made. Read by .ci/edits.
 # 'folder' is that of its crate.
 
-# The text of a file without comments, imports of definitions and contracts.
+# The text of a file without comments, imports of definitions, contracts and words to the prover's tactics.
 function code(text,   out, depth, at, letter) {
     gsub(/\n[ \t]*\/\/[^\n]*/, "", text)
     gsub(/\nghost use [^;]*;/, "", text)
+    gsub(/\n[ \t]*#!?\[tactic\([^\n]*/, "", text)
     out = ""
-    while (match(text, /[ \t\n](ensures|requires)[ \t\n]*[{]/)) {
+    while (match(text, /[ \t\n](ensures|requires)[*]?([ \t\n]+[a-z_][A-Za-z0-9_]*)?[ \t\n]*[{]/)) {
         out = out substr(text, 1, RSTART)
         text = substr(text, RSTART + RLENGTH)
         depth = 1

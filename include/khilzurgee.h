@@ -16,9 +16,9 @@
                   (i+1) times byte i, i from 0 to 509
 
    A station links target/staticlib/libexecutive.a, which
-   'rt staticlib executive' writes; it has all five functions. A program that
+   '.ci/library executive' writes; it has all five functions. A program that
    needs the two checks alone, as the editor, links the small
-   target/staticlib/libimage.a, which 'rt staticlib image' writes. Link one of
+   target/staticlib/libimage.a, which '.ci/library image' writes. Link one of
    the two and not both: each has the two checks. Both are for x86-64 Linux
    and need nothing but the C library.
 

@@ -1,4 +1,4 @@
-//! Says where the proved library lies: `rt staticlib executive` writes it.
+//! Says where the proved library lies: `.ci/library executive` writes it.
 
 fn main() {
     let folder = format!("{}/../../target/staticlib", env!("CARGO_MANIFEST_DIR"));
