@@ -1,39 +1,33 @@
 // Whether a read or a write is tried again.
 ghost use Rattle.std.specs.Prelude.{◌<◌};
 
-use libc::types::timespec;
-use libc::{EAGAIN, EINTR};
+use std::io::ErrorKind;
+use std::rt::Clock;
+use std::time::Duration;
+use std::{io, thread};
 
 // The tries that are left right after a call with this answer: one fewer where it would have had to wait, which is then done, or where a signal came first;
 // none where bytes moved, the input has ended, or it failed in another way.
-pub fn tries(answer: isize, before: u64) -> u64
+pub fn tries<C: Clock>(clock: &C, answer: io::Result<usize>, before: u64) -> u64
     requires { 0 < before }
     ensures { result < before }
 {
-    if answer >= 0 {
+    let Err(error) = answer else {
         return 0;
-    }
-    if worth(os::errno()) { before - 1 } else { 0 }
+    };
+    if worth(clock, error) { before - 1 } else { 0 }
 }
 
 // An error after which the same call may do better; it is waited for where that helps.
-fn worth(error: i32) -> bool {
-    if error == EAGAIN {
-        pause();
+fn worth<C: Clock>(clock: &C, error: io::Error) -> bool {
+    if error.kind() == ErrorKind::WouldBlock {
+        pause(clock);
         return true;
     }
-    error == EINTR
+    error.kind() == ErrorKind::Interrupted
 }
 
-// Waits for a millisecond, or until a signal comes.
-fn pause() {
-    let asked = timespec {
-        tv_sec: 0,
-        tv_nsec: 1000000,
-    };
-    let mut left = timespec {
-        tv_sec: 0,
-        tv_nsec: 0,
-    };
-    libc::nanosleep(&asked, &mut left);
+// Waits for a millisecond.
+fn pause<C: Clock>(clock: &C) {
+    thread::sleep(clock, Duration::from_millis(1));
 }
