@@ -1,5 +1,4 @@
 -- `blocks::first_of` meets its contract: in sound pointers the first of a queue is the first of its list.
-use borrow.Author.Rules.{rules}
 use Rattle.tables.proofs.Held.{first-is}
 use Rattle.blocks.proofs.first_of.Goals as goal
 

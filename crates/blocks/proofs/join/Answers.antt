@@ -1,5 +1,4 @@
 -- `blocks::join` meets its contract: the pointers change by `append`, and the block by a store.
-use borrow.Author.Rules.{rules}
 use Rattle.blocks.proofs.join.Goals as goal
 
 pub returns : goal.returns

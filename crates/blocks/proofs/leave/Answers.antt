@@ -1,5 +1,4 @@
 -- `blocks::leave` meets its contract: only the pointers change, by `remove`.
-use borrow.Author.Rules.{rules}
 use Rattle.blocks.proofs.leave.Goals as goal
 
 pub returns : goal.returns

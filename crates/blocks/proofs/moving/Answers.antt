@@ -1,5 +1,4 @@
 -- `moving` meets its contract: the reading is that of the place, and the rest is as it was or zero.
-use borrow.Author.Rules.{rules}
 use Rattle.blocks.proofs.moving.Goals as goal
 
 pub returns : goal.returns

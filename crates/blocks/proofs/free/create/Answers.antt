@@ -1,5 +1,4 @@
 -- `free::create` meets its contract: the stores are the meaning's.
-use borrow.Author.Rules.{rules}
 use Rattle.meaning.specs.Services.{created}
 use Rattle.blocks.proofs.free.create.Goals as goal
 

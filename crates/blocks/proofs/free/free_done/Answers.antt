@@ -1,14 +1,10 @@
 -- `free::free_done` meets its contract: after n turns the requests 1 to n are seen to.
 use borrow.Author.Rules.{rules}
 use mathlib.Core.Path.{◌≡◌, refl}
-use Prim.Native.Nat.{◌-◌, ◌≤◌}
 use native.Mathlib.Omega.{arith}
-use Rattle.words.specs.Words.{one_to, each}
 use Rattle.tables.specs.State.{read}
-use Rattle.tables.specs.Held.{Shows}
 use Rattle.meaning.specs.Finish.{freed_if_done, freed_done}
 use Rattle.blocks.proofs.Each.{each_none, each_next}
-use Rattle.tables.specs.Blocks.{request_blocks}
 use Rattle.blocks.proofs.free.free_done.Goals as goal
 
 pub loop-n-init : goal.loop-n-init

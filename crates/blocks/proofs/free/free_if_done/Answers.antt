@@ -1,5 +1,4 @@
 -- `free::free_if_done` meets its contract, by its test.
-use borrow.Author.Rules.{rules}
 use Rattle.meaning.specs.Finish.{freed_if_done}
 use Rattle.blocks.proofs.free.free_if_done.Goals as goal
 

@@ -1,5 +1,4 @@
 -- `free::free_request` meets its contract: the stores are the meaning's.
-use borrow.Author.Rules.{rules}
 use Rattle.meaning.specs.Finish.{freed_request}
 use Rattle.blocks.proofs.free.free_request.Goals as goal
 

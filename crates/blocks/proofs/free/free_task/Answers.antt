@@ -1,5 +1,4 @@
 -- `free::free_task` meets its contract: the stores are the meaning's.
-use borrow.Author.Rules.{rules}
 use Rattle.meaning.specs.Finish.{freed_task}
 use Rattle.blocks.proofs.free.free_task.Goals as goal
 

@@ -1,5 +1,4 @@
 -- `free::lowest` meets its contract: the least of a set of 32 is at most 32, so it fits.
-use borrow.Author.Rules.{rules}
 use native.Mathlib.Omega.{arith}
 use lib.Count.{trailing_le}
 use Rattle.blocks.proofs.free.lowest.Goals as goal
