@@ -1,5 +1,5 @@
 -- Laws of dispatching, beside those of the crate `lawful`: the first of a level runs.
-use Rattle.core.specs.Prelude.{◌≡◌, ℕ}
+use Rattle.std.specs.Prelude.{◌≡◌, ℕ}
 use mathlib.Core.Path.{ap, ◌∙◌}
 use Rattle.threads.specs.Threads.{hd}
 use Rattle.tables.specs.declared.Task.{Task}

@@ -1,5 +1,5 @@
 -- Laws of giving core back: the stores are the meaning's, and the level's core queue stays one of waiters.
-use Rattle.core.specs.Prelude.{◌≡◌, ℕ, ◌-◌, ◌≢◌}
+use Rattle.std.specs.Prelude.{◌≡◌, ℕ, ◌-◌, ◌≢◌}
 use mathlib.Core.Path.{refl}
 use borrow.Author.Tests.{eq-eqb, ne_eqb}
 use Rattle.image.specs.declared.Entry.{Entry}

@@ -3,9 +3,9 @@
 use mathlib.Core.Path.{sym, ◌∙◌}
 use Rattle.words.proofs.Once.{OneAnswer}
 use Rattle.tables.proofs.Held.{shown-once}
-use Rattle.scheduler.proofs.core.needs.Reads as needs
-use Rattle.scheduler.proofs.core.seat.Reads as seat
-use Rattle.scheduler.proofs.core.grant.Reads as grant
+use Rattle.scheduler.proofs.core_units.needs.Reads as needs
+use Rattle.scheduler.proofs.core_units.seat.Reads as seat
+use Rattle.scheduler.proofs.core_units.grant.Reads as grant
 use Rattle.scheduler.proofs.dispatch.best_ready.Reads as best-ready
 use Rattle.scheduler.proofs.dispatch.run_first.Reads as run-first
 use Rattle.scheduler.proofs.dispatch.dispatch.Reads as dispatch

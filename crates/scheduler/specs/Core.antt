@@ -1,6 +1,6 @@
 -- Where a newcomer gets its core; what granting core, serving a core queue and giving core back ask.
 use Rattle.std.specs.Prelude.{if◌then◌else◌}
-use Rattle.core.specs.Prelude.{◌≡◌, ℕ, suc, ◌<◌, ◌≤◌}
+use Rattle.std.specs.Prelude.{◌≡◌, ℕ, suc, ◌<◌, ◌≤◌}
 use Rattle.threads.specs.Threads.{count, Member}
 use Rattle.words.specs.Words.{is_empty}
 use Rattle.pools.specs.declared.Found.{Found}

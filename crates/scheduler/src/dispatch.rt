@@ -1,5 +1,5 @@
 // The dispatcher.
-ghost use Rattle.core.specs.Prelude.{◌≡◌, ◌≤◌, ◌≢◌};
+ghost use Rattle.std.specs.Prelude.{◌≡◌, ◌≤◌, ◌≢◌};
 ghost use Rattle.threads.specs.Threads.{hd};
 ghost use Rattle.tables.specs.State.{read, queue};
 ghost use Rattle.tables.specs.Held.{Held, Shows};

@@ -7,7 +7,7 @@
 // meaning of what it does.
 #![tactic(auto)]
 
-pub mod core;
+pub mod core_units;
 pub mod dispatch;
 pub mod ready;
 pub mod serve;

@@ -1,11 +1,11 @@
 // Making a task ready.
-ghost use Rattle.core.specs.Prelude.{◌<◌};
+ghost use Rattle.std.specs.Prelude.{◌<◌};
 ghost use Rattle.threads.specs.Threads.{Outside};
 ghost use Rattle.tables.specs.State.{read, joining};
 ghost use Rattle.tables.specs.Held.{Loose, Shows};
 ghost use Rattle.meaning.specs.Ready.{placed, made_ready};
 
-use crate::core;
+use crate::core_units;
 use pools::Found;
 use tables::Tables;
 use tables::names::{IN_CORE, LEVELS, READY};
@@ -27,13 +27,13 @@ pub fn make_ready(t: Tables, k: u8) -> Tables
     let e = blocks::entry_of(t, k);
     let level = e.level;
     let n = e.units;
-    if !core::needs(t.tasks[k as usize], n) {
+    if !core_units::needs(t.tasks[k as usize], n) {
         return put_in(t, level, READY, k);
     }
-    let seat = core::seat(t, level, n);
+    let seat = core_units::seat(t, level, n);
     let Found::At(a) = seat else {
         return put_in(t, level + LEVELS, IN_CORE, k);
     };
-    let u = core::grant(t, k, level, n, a);
+    let u = core_units::grant(t, k, level, n, a);
     put_in(u, level, READY, k)
 }

@@ -1,5 +1,5 @@
 // Serving a core queue, and giving core back, after which it is served.
-ghost use Rattle.core.specs.Prelude.{◌≡◌};
+ghost use Rattle.std.specs.Prelude.{◌≡◌};
 ghost use Rattle.threads.specs.Threads.{Sound};
 ghost use Rattle.tables.specs.State.{read, core_queue, task_at};
 ghost use Rattle.tables.specs.Blocks.{HoldsRun};
@@ -8,7 +8,7 @@ ghost use Rattle.meaning.specs.Ready.{seated, served};
 ghost use Rattle.meaning.specs.Finish.{unseated, given_back};
 ghost use Rattle.scheduler.specs.Core.{Waiters, Seating, Holder};
 
-use crate::{core, ready};
+use crate::{core_units, ready};
 use pools::Found;
 use tables::Tables;
 use tables::names::{GAVE_BACK, HOLDS_RUN, LEVELS, READY};
@@ -19,7 +19,7 @@ pub fn serve_one(t: Tables, level: u8, k: u8, n: u8, a: u8) -> Tables
     ensures { Shows result (seated (read t) (core_queue level) k) }
 {
     let v = blocks::leave(t, level + LEVELS, k);
-    let u = core::grant(v, k, level, n, a);
+    let u = core_units::grant(v, k, level, n, a);
     ready::put_in(u, level, READY, k)
 }
 

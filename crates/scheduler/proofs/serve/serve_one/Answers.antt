@@ -1,5 +1,4 @@
 -- `serve::serve_one` meets its contract: it leaves the core queue, is granted its run, and joins the ready queue.
-use borrow.Author.Rules.{rules}
 use mathlib.Core.Path.{sym, ap, ◌∙◌}
 use native.Mathlib.Omega.{arith}
 use Rattle.threads.specs.Threads.{counts}
@@ -8,36 +7,29 @@ use Rattle.tables.specs.State.{State, core_queue, leaving, read}
 use Rattle.meaning.specs.Ready.{given_run}
 use Rattle.scheduler.proofs.Served.{seated-as, moved-start}
 use Rattle.scheduler.proofs.Granted.{granted-out}
-use Rattle.scheduler.proofs.serve.serve_one.Statement.{statement}
-use Rattle.scheduler.proofs.serve.serve_one.Tie as tie
+use Rattle.scheduler.proofs.serve.serve_one.Goals as goal
 
-add-leave : tie.Need-overflow-add-leave
-add-leave c = search rules
-
-leave-requires : tie.Need-leave-requires
-leave-requires c κs = search rules
-
-grant-requires : tie.Need-grant-requires
-grant-requires c κs =
-    let p = c.before.requires in
-    let e = c.leave.ensures in (
+pub grant-u-requires : goal.grant-u-requires
+grant-u-requires c =
+    let p = c.requires in
+    let e = c.leave-v.ensures in (
       rw e.reads (record {
         low = p.waiter.low;
         worst = p.worst;
         start = p.start;
         own-level = sym p.waiter.own;
         own-units = p.own-units;
-        own-start = moved-start (read c.before.args.t) (core_queue c.before.args.level) c.before.args.k p.own-start;
+        own-start = moved-start (read c.args.t) (core_queue c.args.level) c.args.k p.own-start;
       }),
       e.sound,
     )
 
-put-in-requires : tie.Need-put-in-requires
-put-in-requires c κs =
-    let s = c.before.before in
+pub put_in-requires : goal.put_in-requires
+put_in-requires c =
+    let s = c in
     let p = s.requires in
-    let e = c.grant.ensures in
-    let l = c.before.leave.ensures in
+    let e = c.grant-u.ensures in
+    let l = c.leave-v.ensures in
     let out = ap (λ (x : State). counts s.args.k (given_run x s.args.k).queues) l.reads ∙ granted-out (leaving (read s.args.t) (core_queue s.args.level) s.args.k) s.args.k s.args.k (left_out p.member) in (
       record {
         sound = e.sound;
@@ -49,12 +41,8 @@ put-in-requires c κs =
       p.waiter.low,
     )
 
-returns : tie.Need-returns
+pub returns : goal.returns
 returns c =
-    let s = c.before.before.before in
-    let e = c.before.grant.ensures.reads ∙ ap (λ (x : State). given_run x s.args.k) c.before.before.leave.ensures.reads in
+    let s = c in
+    let e = c.grant-u.ensures.reads ∙ ap (λ (x : State). given_run x s.args.k) c.leave-v.ensures.reads in
     rw (← seated-as (read s.args.t) (core_queue s.args.level) s.args.k, s.requires.waiter.own, ← e) c.put_in.ensures
-
-pub serve-one-spec : {M : Type 1} → statement M
-serve-one-spec =
-    tie.close (tie.spec add-leave leave-requires grant-requires put-in-requires returns)

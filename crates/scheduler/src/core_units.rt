@@ -1,5 +1,5 @@
 // Core: whether a task still needs units, where it would get them at once, and granting them.
-ghost use Rattle.core.specs.Prelude.{◌≡◌, ◌≤◌, ◌&&◌, ◌==◌, nat_lt};
+ghost use Rattle.std.specs.Prelude.{◌≡◌, ◌≤◌, ◌&&◌, ◌==◌, nat_lt};
 ghost use Rattle.threads.specs.Threads.{Sound};
 ghost use Rattle.tables.specs.Blocks.{NotGranted};
 ghost use Rattle.tables.specs.State.{read};
