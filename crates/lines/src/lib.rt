@@ -43,7 +43,8 @@ pub fn text(l: Line, words: &[u8]) -> Line
 {
     let mut bytes = l.bytes;
     let used = l.used;
-    let n = bytes::copy(words, &mut bytes[used..]);
+    let n = words.len();
+    bytes[used..used + n].copy_from_slice(words);
     Line {
         bytes: bytes,
         used: used + n,

@@ -1,0 +1,21 @@
+-- `member` meets its contract: the number behind a space where the bit is set, and nothing where it is not.
+use Prim.Native.Nat.{◌/◌, ◌%◌, ◌^◌}
+use native.Mathlib.Omega.{arith}
+use borrow.Author.Tests.{eq-eqb, ne_eqb}
+use Rattle.lines.proofs.Behind.{nothing-more}
+use Rattle.text.proofs.Spelling.{short}
+use Rattle.lines.proofs.member.Goals as goal
+
+pub returns-then-set-e-eq1 : goal.returns-then-set-e-eq1
+returns-then-set-e-eq1 c =
+    let s = c.args in
+    let f = c.field.ensures in
+    rw (eq-eqb (s.set / 2 ^ s.e % 2) 1 c.if-set-e-eq1.true) record {
+      adds = f.adds;
+      few = omega (arith, f.adds.used, short s.e (omega arith));
+    }
+
+pub returns-else-set-e-eq1 : goal.returns-else-set-e-eq1
+returns-else-set-e-eq1 c =
+    let s = c.args in
+    rw (ne_eqb (s.set / 2 ^ s.e % 2) 1 c.if-set-e-eq1.false) record { adds = nothing-more s.l; few = omega arith }
