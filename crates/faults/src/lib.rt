@@ -3,8 +3,6 @@
 
 ghost use Rattle.faults.specs.Scans.{Inside};
 
-use libc::STDERR_FILENO;
-
 // What is wrong with a word, or with the line.
 #[derive(Clone, Copy)]
 pub enum Fault {
@@ -41,137 +39,145 @@ pub struct Scan {
     pub value: u64,
 }
 
-fn say(text: &[u8]) {
-    pipes::give(STDERR_FILENO, text);
+fn say(rt: HostRuntime, text: &[u8]) {
+    pipes::give(&rt, &mut rt.stderr(), text);
 }
 
-fn say_number(number: u64) {
-    saying::written(STDERR_FILENO, lines::field(lines::empty(), b"", number));
+fn say_number(rt: HostRuntime, number: u64) {
+    saying::written(
+        rt,
+        &mut rt.stderr(),
+        lines::field(lines::empty(), b"", number),
+    );
 }
 
-fn say_line(number: u64) {
-    say(b"line ");
-    say_number(number);
-    say(b": ");
+fn say_line(rt: HostRuntime, number: u64) {
+    say(rt, b"line ");
+    say_number(rt, number);
+    say(rt, b": ");
 }
 
 // The word that is wrong, between quotes.
-fn say_word(line: &[u8], s: Scan)
+fn say_word(rt: HostRuntime, line: &[u8], s: Scan)
     requires { Inside line.now 0 s }
 {
     let from = s.from;
     let to = s.to;
-    say(b"'");
-    say(&line[from..to]);
-    say(b"'");
+    say(rt, b"'");
+    say(rt, &line[from..to]);
+    say(rt, b"'");
 }
 
 // What should have stood there, of a fault that wants a word.
-fn say_wanted(fault: Fault) {
+fn say_wanted(rt: HostRuntime, fault: Fault) {
     match fault {
-        Fault::WantsNumber => say(b"a number"),
-        Fault::WantsLevel => say(b"'level'"),
-        Fault::WantsUnits => say(b"'units'"),
-        Fault::WantsDevice => say(b"'device'"),
-        Fault::WantsComma => say(b"','"),
-        Fault::WantsBytes => say(b"'bytes'"),
-        Fault::WantsOf => say(b"'of'"),
-        Fault::WantsSwitch => say(b"'on' or 'off'"),
-        Fault::WantsCheck => say(b"'check'"),
-        Fault::WantsDone => say(b"'done'"),
-        _ => say(b"'when', 'at' or 'after'"),
+        Fault::WantsNumber => say(rt, b"a number"),
+        Fault::WantsLevel => say(rt, b"'level'"),
+        Fault::WantsUnits => say(rt, b"'units'"),
+        Fault::WantsDevice => say(rt, b"'device'"),
+        Fault::WantsComma => say(rt, b"','"),
+        Fault::WantsBytes => say(rt, b"'bytes'"),
+        Fault::WantsOf => say(rt, b"'of'"),
+        Fault::WantsSwitch => say(rt, b"'on' or 'off'"),
+        Fault::WantsCheck => say(rt, b"'check'"),
+        Fault::WantsDone => say(rt, b"'done'"),
+        _ => say(rt, b"'when', 'at' or 'after'"),
     }
 }
 
 // A word that stands where another should, or the line's end there.
-fn say_instead(line: &[u8], s: Scan)
+fn say_instead(rt: HostRuntime, line: &[u8], s: Scan)
     requires { Inside line.now 0 s }
 {
     if s.from == s.to {
-        say(b"the line ends");
+        say(rt, b"the line ends");
     } else {
-        say_word(line, s);
-        say(b" stands");
+        say_word(rt, line, s);
+        say(rt, b" stands");
     }
-    say(b" where ");
+    say(rt, b" where ");
     let fault = s.fault;
-    say_wanted(fault);
-    say(b" is wanted");
+    say_wanted(rt, fault);
+    say(rt, b" is wanted");
 }
 
-fn say_large(line: &[u8], s: Scan, most: u64)
+fn say_large(rt: HostRuntime, line: &[u8], s: Scan, most: u64)
     requires { Inside line.now 0 s }
 {
-    say_word(line, s);
-    say(b" is more than ");
-    say_number(most);
-    say(b", the most that fits here");
+    say_word(rt, line, s);
+    say(rt, b" is more than ");
+    say_number(rt, most);
+    say(rt, b", the most that fits here");
 }
 
 // A word, and what is wrong with it.
-fn say_of(line: &[u8], s: Scan, text: &[u8])
+fn say_of(rt: HostRuntime, line: &[u8], s: Scan, text: &[u8])
     requires { Inside line.now 0 s }
 {
-    say_word(line, s);
-    say(text);
+    say_word(rt, line, s);
+    say(rt, text);
 }
 
-fn say_fault(line: &[u8], s: Scan)
+fn say_fault(rt: HostRuntime, line: &[u8], s: Scan)
     requires { Inside line.now 0 s }
 {
     let fault = s.fault;
     match fault {
-        Fault::Unknown => say_of(line, s, b" is neither a line of the image nor a call"),
-        Fault::NotCall => say_of(line, s, b" is not a call"),
+        Fault::Unknown => say_of(rt, line, s, b" is neither a line of the image nor a call"),
+        Fault::NotCall => say_of(rt, line, s, b" is not a call"),
         Fault::Late => say_of(
+            rt,
             line,
             s,
             b" belongs to the image, which ended at the first call",
         ),
-        Fault::Twice => say_of(line, s, b" was given before"),
-        Fault::Full => say_of(line, s, b" is one too many: an image has at most 32"),
-        Fault::Surplus => say_of(line, s, b" is one word too many"),
-        Fault::Backwards => say_of(line, s, b" is below the first number of its range"),
-        Fault::Large(most) => say_large(line, s, most),
-        Fault::Long => say(b"it has more than 200 bytes"),
-        _ => say_instead(line, s),
+        Fault::Twice => say_of(rt, line, s, b" was given before"),
+        Fault::Full => say_of(rt, line, s, b" is one too many: an image has at most 32"),
+        Fault::Surplus => say_of(rt, line, s, b" is one word too many"),
+        Fault::Backwards => say_of(rt, line, s, b" is below the first number of its range"),
+        Fault::Large(most) => say_large(rt, line, s, most),
+        Fault::Long => say(rt, b"it has more than 200 bytes"),
+        _ => say_instead(rt, line, s),
     }
 }
 
-fn say_end() {
-    say(b"; nothing after this line was read\n");
+fn say_end(rt: HostRuntime) {
+    say(rt, b"; nothing after this line was read\n");
 }
 
 // A line that is refused.
-pub fn refused(number: u64, line: &[u8], s: Scan)
+pub fn refused(rt: HostRuntime, number: u64, line: &[u8], s: Scan)
     requires { Inside line.now 0 s }
 {
-    say_line(number);
-    say_fault(line, s);
-    say_end();
+    say_line(rt, number);
+    say_fault(rt, line, s);
+    say_end(rt);
 }
 
 // Why an image is not written.
-fn say_image(refusal: u8) {
-    say(b"the image is refused by ");
-    say_number(refusal as u64);
+fn say_image(rt: HostRuntime, refusal: u8) {
+    say(rt, b"the image is refused by ");
+    say_number(rt, refusal as u64);
     match refusal {
-        4 => say(b": it has no module"),
-        5 => say(b": 'every' is missing, or 0"),
-        _ => say(b": a module's level is not 1 to 3, or its units are above 64"),
+        4 => say(rt, b": it has no module"),
+        5 => say(rt, b": 'every' is missing, or 0"),
+        _ => say(
+            rt,
+            b": a module's level is not 1 to 3, or its units are above 64",
+        ),
     }
 }
 
 // An image that is refused where it ends, at the first call.
-pub fn refused_image(number: u64, refusal: u8) {
-    say_line(number);
-    say_image(refusal);
-    say_end();
+pub fn refused_image(rt: HostRuntime, number: u64, refusal: u8) {
+    say_line(rt, number);
+    say_image(rt, refusal);
+    say_end(rt);
 }
 
 // An image that is refused where the input ends.
-pub fn refused_at_end(refusal: u8) {
-    say(b"at the end: ");
-    say_image(refusal);
-    say(b"\n");
+pub fn refused_at_end(rt: HostRuntime, refusal: u8) {
+    say(rt, b"at the end: ");
+    say_image(rt, refusal);
+    say(rt, b"\n");
 }
