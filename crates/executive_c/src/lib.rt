@@ -4,7 +4,7 @@
 // Each is one call of the function of its name in `executive`, whose promise it says again: any bytes, any tables, nothing is asked.
 #![tactic(auto)]
 
-ghost use Rattle.std.specs.Prelude.{[], ◌×◌, ◌∷◌, ◌≡◌};
+ghost use Rattle.std.specs.Prelude.{[], ◌∷◌, ◌≡◌};
 ghost use Rattle.answers.specs.Answer.{refusal_of};
 ghost use Rattle.image.specs.Load.{load_of};
 ghost use Rattle.sealed.specs.Sealed.{block_check};
