@@ -5,18 +5,18 @@
 
 use calls::{Answer, codes};
 
-fn main() {
-    told(codes::END, 9, 0);
-    told(codes::TIMER, 21, 0);
-    told(codes::TEST_EVENT, 0, 4);
+fn main(rt: HostRuntime) {
+    told(rt, codes::END, 9, 0);
+    told(rt, codes::TIMER, 21, 0);
+    told(rt, codes::TEST_EVENT, 0, 4);
 }
 
-fn told(code: u8, refusal: u8, res: u8) {
+fn told(rt: HostRuntime, code: u8, refusal: u8, res: u8) {
     let bytes = [code, 0, 0, 0, 0, 0, 0, 0, 0, 0, 0, 0, 0, 0, 0, 0];
     let answer = Answer {
         refusal: refusal,
         result: res,
         running: 1,
     };
-    saying::line(explain::call(lines::empty(), &bytes, answer));
+    saying::line(rt, explain::call(lines::empty(), &bytes, answer));
 }
