@@ -1,25 +1,11 @@
 -- `by_names` meets its contract: each row is gathered with its own test.
-use borrow.Author.Rules.{rules}
 use mathlib.Core.Path.{refl}
 use Rattle.words.proofs.Rows.{no_zero}
 use Rattle.meaning.specs.Refusals.{call_rows}
 use Rattle.refusals.specs.Parts.{rows_to, rows_from}
 use Rattle.refusals.proofs.Gathered.{gathered, gathered-first}
-use Rattle.refusals.proofs.by_names.Statement.{statement}
-use Rattle.refusals.proofs.by_names.Tie as tie
+use Rattle.refusals.proofs.by_names.Goals as goal
 
-returns : tie.Need-returns
+pub returns : goal.returns
 unfolding call_rows rows_to rows_from no_zero gathered
 returns c = gathered-first _ refl (cc)
-
-pub by-names-spec : {M : Type 1} → statement M
-by-names-spec =
-    tie.close
-    (tie.spec
-    (search rules)
-    (search rules)
-    (search rules)
-    (search rules)
-    (search rules)
-    (search rules)
-    returns)

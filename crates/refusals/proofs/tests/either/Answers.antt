@@ -3,12 +3,8 @@ use mathlib.Core.Bool.{Bool, ◌||◌, or-false}
 use mathlib.Core.Path.{sym, ap}
 use lib.Dec.{eqb}
 use Rattle.words.specs.Words.{◌among◌}
-use Rattle.refusals.proofs.tests.either.Statement.{statement}
-use Rattle.refusals.proofs.tests.either.Tie as tie
+use Rattle.refusals.proofs.tests.either.Goals as goal
 
-returns : tie.Need-returns
+pub returns : goal.returns
 unfolding ◌among◌
 returns c = ap (λ (t : Bool). eqb c.args.a c.args.code || t) (sym (or-false _))
-
-pub either-spec : {M : Type 1} → statement M
-either-spec = tie.close (tie.spec returns)

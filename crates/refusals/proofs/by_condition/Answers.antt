@@ -1,27 +1,12 @@
 -- `by_condition` meets its contract: each row is gathered with its own test.
-use borrow.Author.Rules.{rules}
 use mathlib.Core.Path.{refl}
 use Rattle.words.proofs.Rows.{no_zero}
 use Rattle.meaning.specs.Conditions.{undefined_in}
 use Rattle.meaning.specs.Refusals.{call_rows}
 use Rattle.refusals.specs.Parts.{rows_to, rows_from}
 use Rattle.refusals.proofs.Gathered.{gathered, gathered-first}
-use Rattle.refusals.proofs.by_condition.Statement.{statement}
-use Rattle.refusals.proofs.by_condition.Tie as tie
+use Rattle.refusals.proofs.by_condition.Goals as goal
 
-returns : tie.Need-returns
+pub returns : goal.returns
 unfolding call_rows rows_to rows_from undefined_in no_zero gathered
 returns c = gathered-first _ refl (cc)
-
-pub by-condition-spec : {M : Type 1} → statement M
-by-condition-spec =
-    tie.close
-    (tie.spec
-    (search rules)
-    (search rules)
-    (search rules)
-    (search rules)
-    (search rules)
-    (search rules)
-    (search rules)
-    returns)
