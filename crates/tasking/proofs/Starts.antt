@@ -1,7 +1,7 @@
 -- A new task: its block can be made ready, or can wait; and so can a child whose parent has been put in LINK. The laws of the meaning say that the block is in
 -- hand, and a block in hand is in no queue.
 use mathlib.Core.Bool.{false, true≢false}
-use mathlib.Core.Path.{◌≡◌, sym, ap, ◌∙◌}
+use mathlib.Core.Path.{◌≡◌, sym, ap, subst, ◌∙◌}
 use mathlib.Core.Logic.{◌≢◌, ⊎_elim}
 use mathlib.Core.List.{[]}
 use Prim.Native.Nat.{ℕ, ◌^◌, ◌<◌, suc}
@@ -51,7 +51,7 @@ module _ {t : Tables} {c : Call} (p : Starting t c) where
   pub new-waits : {u : Tables} → Shows u (created s k c.number 0) → Condition s c → c.amount < 2 ^ 32 → false ≡ holds s c
       → Loose u k × (c.kind ≢ 1 → due_of (read u) c < 2 ^ 32)
   unfolding created due_of
-  new-waits h w low f = (new-loose h, rw h.reads (due-low s c w low f))
+  new-waits h w low f = (new-loose h, subst (λ (x : State). c.kind ≢ 1 → due_of x c < 2 ^ 32) (sym h.reads) (due-low s c w low f))
 
   pub child-loose : t.running ≢ 0 → {u : Tables} → Shows u (stopped (created s k c.number s.running) InLink) → Loose u k
   child-loose n h = hand-loose {h = []} {e = 0} h.sound (rw h.reads (linked p.lawful.state c.number p.program p.block n))
