@@ -14,36 +14,35 @@ mod verbs;
 
 ghost use Rattle.compose.specs.Session.{Held};
 
-use libc::STDIN_FILENO;
 use session::Session;
 
 // Reads once, and takes what came; where the input has ended, so does the session.
-fn some(s: Session) -> Session
+fn some(rt: HostRuntime, s: Session) -> Session
     requires { Held s }
     ensures { Held result }
 {
     let mut buffer = [0u8; 512];
-    let got = pipes::some(STDIN_FILENO, &mut buffer);
+    let got = pipes::some(&rt, &mut rt.stdin(), &mut buffer);
     if got.failed {
-        saying::unread_after(s.calls);
+        saying::unread_after(rt, s.calls);
         return session::stopped(s);
     }
     let n = got.count;
     if n == 0 {
-        return session::finish(s);
+        return session::finish(rt, s);
     }
-    session::feed(s, &buffer[..n])
+    session::feed(rt, s, &buffer[..n])
 }
 
 // A proved loop has to end, and nothing says that the input does: the turns are counted down from a number that no run uses up.
-fn main() {
+fn main(rt: HostRuntime) {
     let mut s = session::start();
     let mut turns = u64::MAX;
     while 0 < turns {
         if !s.going {
             return;
         }
-        s = some(s);
+        s = some(rt, s);
         turns -= 1;
     }
 }

@@ -10,7 +10,7 @@ use answers::Outcome;
 use calls::Call;
 use faults::{Fault, Scan};
 use image::Directory;
-use libc::STDOUT_FILENO;
+use memchr::memchr;
 use text::word::Word;
 
 // The line so far and its number; the image so far, and whether `every` and `events` were given; whether calls have begun, and how many were written;
@@ -54,28 +54,28 @@ pub fn stopped(mut s: Session) -> Session
 }
 
 // Writes bytes, all of them; where that fails, it is said and the session stops.
-fn written(s: Session, bytes: &[u8]) -> Session
+fn written(rt: HostRuntime, s: Session, bytes: &[u8]) -> Session
     requires { Held s }
     ensures { Held result }
 {
-    if pipes::give(STDOUT_FILENO, bytes) {
+    if pipes::give(&rt, &mut rt.stdout(), bytes) {
         return s;
     }
-    saying::unwritten_after(s.calls);
+    saying::unwritten_after(rt, s.calls);
     stopped(s)
 }
 
 // A line in which something is wrong.
-fn refused(s: Session, line: &[u8], wrong: Scan) -> Session
+fn refused(rt: HostRuntime, s: Session, line: &[u8], wrong: Scan) -> Session
     requires { Held s × Inside line.now 0 wrong }
     ensures { Held result }
 {
-    faults::refused(s.number, line, wrong);
+    faults::refused(rt, s.number, line, wrong);
     stopped(s)
 }
 
 // The image ends: it is written, or refused.
-fn closed(mut s: Session, at_end: bool) -> Session
+fn closed(rt: HostRuntime, mut s: Session, at_end: bool) -> Session
     requires { Held s }
     ensures { Held result }
 {
@@ -87,27 +87,27 @@ fn closed(mut s: Session, at_end: bool) -> Session
     let mut bytes = [0u8; 512];
     let outcome = image::write(directory, &mut bytes);
     let Outcome::Refused(refusal) = outcome else {
-        return written(s, &bytes);
+        return written(rt, s, &bytes);
     };
     if at_end {
-        faults::refused_at_end(refusal);
+        faults::refused_at_end(rt, refusal);
     } else {
-        faults::refused_image(s.number, refusal);
+        faults::refused_image(rt, s.number, refusal);
     }
     stopped(s)
 }
 
 // A call, done: the first one ends the image.
-fn called(s: Session, call: Call) -> Session
+fn called(rt: HostRuntime, s: Session, call: Call) -> Session
     requires { Held s }
     ensures { Held result }
 {
-    let after = closed(s, false);
+    let after = closed(rt, s, false);
     if !after.going {
         return after;
     }
-    let mut done = written(after, &calls::write(call));
-    done.calls = std::num::wrapping_add_u64(done.calls, 1);
+    let mut done = written(rt, after, &calls::write(call));
+    done.calls = done.calls.wrapping_add(1);
     done
 }
 
@@ -146,7 +146,7 @@ fn out_of_place(s: Session, shape: Shape) -> Fault {
     }
 }
 
-fn image_line(s: Session, line: &[u8], w: Word, shape: Shape) -> Session
+fn image_line(rt: HostRuntime, s: Session, line: &[u8], w: Word, shape: Shape) -> Session
     requires { Held s × Within line.now 0 w }
     ensures { Held result }
 {
@@ -158,10 +158,10 @@ fn image_line(s: Session, line: &[u8], w: Word, shape: Shape) -> Session
         let call = o.call;
         return described(s, call, shape);
     }
-    refused(s, line, end)
+    refused(rt, s, line, end)
 }
 
-fn call_line(s: Session, line: &[u8], w: Word, verb: Verb) -> Session
+fn call_line(rt: HostRuntime, s: Session, line: &[u8], w: Word, verb: Verb) -> Session
     requires { Held s × Within line.now 0 w }
     ensures { Held result }
 {
@@ -171,12 +171,12 @@ fn call_line(s: Session, line: &[u8], w: Word, verb: Verb) -> Session
     let end = scan::end(line, behind);
     if scan::fine(end) {
         let call = o.call;
-        return called(s, made::call(verb.code, call));
+        return called(rt, s, made::call(verb.code, call));
     }
-    refused(s, line, end)
+    refused(rt, s, line, end)
 }
 
-fn any_line(s: Session, line: &[u8], w: Word) -> Session
+fn any_line(rt: HostRuntime, s: Session, line: &[u8], w: Word) -> Session
     requires { Held s × Within line.now 0 w }
     ensures { Held result }
 {
@@ -185,24 +185,24 @@ fn any_line(s: Session, line: &[u8], w: Word) -> Session
     let end = scan::end(line, behind);
     if scan::fine(end) {
         let call = o.call;
-        return called(s, call);
+        return called(rt, s, call);
     }
-    refused(s, line, end)
+    refused(rt, s, line, end)
 }
 
 // A line whose first word no row has.
-fn unknown(s: Session, line: &[u8], w: Word) -> Session
+fn unknown(rt: HostRuntime, s: Session, line: &[u8], w: Word) -> Session
     requires { Held s × Within line.now 0 w }
     ensures { Held result }
 {
     if s.calling {
-        return refused(s, line, scan::begun(w, Fault::NotCall));
+        return refused(rt, s, line, scan::begun(w, Fault::NotCall));
     }
-    refused(s, line, scan::begun(w, Fault::Unknown))
+    refused(rt, s, line, scan::begun(w, Fault::Unknown))
 }
 
 // One line, without its comment.
-fn line_read(s: Session, line: &[u8]) -> Session
+fn line_read(rt: HostRuntime, s: Session, line: &[u8]) -> Session
     requires { Held s }
     ensures { Held result }
 {
@@ -213,54 +213,54 @@ fn line_read(s: Session, line: &[u8]) -> Session
     let verb = verbs::find(line, w);
     let shape = verb.shape;
     match shape {
-        Shape::Unknown => unknown(s, line, w),
-        Shape::Call => any_line(s, line, w),
-        Shape::Every | Shape::Events | Shape::Module => image_line(s, line, w, shape),
-        _ => call_line(s, line, w, verb),
+        Shape::Unknown => unknown(rt, s, line, w),
+        Shape::Call => any_line(rt, s, line, w),
+        Shape::Every | Shape::Events | Shape::Module => image_line(rt, s, line, w, shape),
+        _ => call_line(rt, s, line, w, verb),
     }
 }
 
 // The first bytes of a line's buffer are a line: it is read up to its comment.
-fn line_cut(s: Session, bytes: &[u8], count: usize) -> Session
+fn line_cut(rt: HostRuntime, s: Session, bytes: &[u8], count: usize) -> Session
     requires { Held s × (count ≤ length bytes.now) }
     ensures { Held result }
 {
-    let cut = bytes::scan::find(bytes, 0, count, b'#');
-    line_read(s, &bytes[..cut])
+    let cut = memchr(b'#', &bytes[..count]).unwrap_or(count);
+    line_read(rt, s, &bytes[..cut])
 }
 
 // The same, of a whole buffer.
-fn line_in(s: Session, buffer: &[u8; 200], count: usize) -> Session
+fn line_in(rt: HostRuntime, s: Session, buffer: &[u8; 200], count: usize) -> Session
     requires { Held s × (count ≤ 200) }
     ensures { Held result }
 {
-    line_cut(s, buffer, count)
+    line_cut(rt, s, buffer, count)
 }
 
 // The line so far has ended: it is read, and the next begins.
-fn line_ended(s: Session) -> Session
+fn line_ended(rt: HostRuntime, s: Session) -> Session
     requires { Held s }
     ensures { Held result }
 {
     let buffer = s.line;
-    let mut after = line_in(s, &buffer, s.length);
+    let mut after = line_in(rt, s, &buffer, s.length);
     after.length = 0;
-    after.number = std::num::wrapping_add_u64(after.number, 1);
+    after.number = after.number.wrapping_add(1);
     after
 }
 
 // One byte of the text.
-fn taken(mut s: Session, byte: u8) -> Session
+fn taken(rt: HostRuntime, mut s: Session, byte: u8) -> Session
     requires { Held s }
     ensures { Held result }
 {
     if byte == b'\n' {
-        return line_ended(s);
+        return line_ended(rt, s);
     }
     let at = s.length;
     if 200 <= at {
         let none = Word { from: 0, to: 0 };
-        return refused(s, b"", scan::begun(none, Fault::Long));
+        return refused(rt, s, b"", scan::begun(none, Fault::Long));
     }
     s.line[at] = byte;
     s.length = at + 1;
@@ -268,7 +268,7 @@ fn taken(mut s: Session, byte: u8) -> Session
 }
 
 // Bytes of the text, as many as came, until one line is refused.
-pub fn feed(s: Session, bytes: &[u8]) -> Session
+pub fn feed(rt: HostRuntime, s: Session, bytes: &[u8]) -> Session
     requires { Held s }
     ensures { Held result }
 {
@@ -278,20 +278,20 @@ pub fn feed(s: Session, bytes: &[u8]) -> Session
         if !after.going {
             return after;
         }
-        after = taken(after, bytes[i]);
+        after = taken(rt, after, bytes[i]);
         i += 1;
     }
     after
 }
 
 // The text has ended: its last line may have no line end, and an image without calls ends here.
-pub fn finish(s: Session) -> Session
+pub fn finish(rt: HostRuntime, s: Session) -> Session
     requires { Held s }
     ensures { Held result }
 {
-    let last = line_ended(s);
+    let last = line_ended(rt, s);
     if !last.going {
         return last;
     }
-    stopped(closed(last, true))
+    stopped(closed(rt, last, true))
 }

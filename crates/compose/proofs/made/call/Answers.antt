@@ -1,10 +1,9 @@
 -- `made::call` meets its contract: kind and set stay for a code that uses them, and are 0 for any other.
 use Rattle.std.proofs.Common.{sym, refl, ◌∙◌, true≢false, rules}
-use Rattle.compose.proofs.made.call.Statement.{statement}
-use Rattle.compose.proofs.made.call.Tie as tie
+use Rattle.compose.proofs.made.call.Goals as goal
 
-returns : tie.Need-returns
-returns c =
+pub returns-then-code : goal.returns-then-code
+returns-then-code c =
     record {
       code = refl;
       kind = search rules;
@@ -12,20 +11,17 @@ returns c =
       value = refl;
       amount = refl;
       used = λ _. (refl, refl);
-      bare = λ h. absurd (true≢false (sym c.if1.true ∙ h));
+      bare = λ h. absurd (true≢false (sym c.if-code.true ∙ h));
     }
 
-returns-2 : tie.Need-returns-2
-returns-2 c =
+pub returns : goal.returns
+returns c =
     record {
       code = refl;
       kind = search rules;
       number = refl;
       value = refl;
       amount = refl;
-      used = λ h. absurd (true≢false (sym h ∙ c.if1.false));
+      used = λ h. absurd (true≢false (sym h ∙ c.if-code.false));
       bare = λ _. (refl, refl);
     }
-
-pub call-spec : {M : Type 1} → statement M
-call-spec = tie.close (tie.spec returns returns-2)
