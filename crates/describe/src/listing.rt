@@ -4,15 +4,21 @@ ghost use Rattle.std.specs.Prelude.{◌≤◌};
 use image::{Directory, Entry};
 use lines::{Line, field, members, text};
 
-pub fn directory(d: Directory) -> bool {
-    let one = saying::line(field(lines::empty(), b"Modules (M): ", d.modules as u64));
-    let two = saying::line(field(
-        lines::empty(),
-        b"Cycles between looks at the time queue (N): ",
-        d.every as u64,
-    ));
-    let three = saying::line(events(d.defined));
-    one & two & three & modules(d)
+pub fn directory(rt: HostRuntime, d: Directory) -> bool {
+    let one = saying::line(
+        rt,
+        field(lines::empty(), b"Modules (M): ", d.modules as u64),
+    );
+    let two = saying::line(
+        rt,
+        field(
+            lines::empty(),
+            b"Cycles between looks at the time queue (N): ",
+            d.every as u64,
+        ),
+    );
+    let three = saying::line(rt, events(d.defined));
+    one & two & three & modules(rt, d)
 }
 
 fn events(defined: u64) -> Line
@@ -26,13 +32,13 @@ fn events(defined: u64) -> Line
 }
 
 // The used entries, a line for each module.
-fn modules(d: Directory) -> bool {
+fn modules(rt: HostRuntime, d: Directory) -> bool {
     let used = d.modules as usize;
     let mut written = true;
     let mut m: usize = 0;
     while m < 32 {
         if m < used {
-            written = saying::line(entry(m, d.entries[m])) & written;
+            written = saying::line(rt, entry(m, d.entries[m])) & written;
         }
         m += 1;
     }
