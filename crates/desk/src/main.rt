@@ -11,7 +11,8 @@ mod telling;
 ghost use Rattle.std.specs.Prelude.{◌≤◌};
 
 use calls::Answer;
-use libc::{STDERR_FILENO, STDIN_FILENO};
+use std::env::FillError;
+use std::rt::Env;
 use tables::Tables;
 use telling::Wish;
 
@@ -22,37 +23,51 @@ pub struct Taken {
     pub count: usize,
 }
 
-fn main() {
-    let lowest = given(b"--lowest");
-    let explain = given(b"--explain");
-    let since = given(b"--since");
+fn main(rt: HostRuntime) {
+    let lowest = given(rt, b"--lowest");
+    let explain = given(rt, b"--explain");
+    let since = given(rt, b"--since");
     let known = 1 + one(lowest) + one(explain) + one(since);
-    if (known < os::arg_count()) | (explain & since) {
+    if (known < arg_count(rt)) | (explain & since) {
         pipes::give(
-            STDERR_FILENO,
+            &rt,
+            &mut rt.stderr(),
             b"usage: desk [--lowest] [--explain | --since]\n",
         );
     } else if explain {
-        open(lowest, Wish::Words);
+        open(rt, lowest, Wish::Words);
     } else if since {
-        open(lowest, Wish::Readings);
+        open(rt, lowest, Wish::Readings);
     } else {
-        open(lowest, Wish::Numbers);
+        open(rt, lowest, Wish::Numbers);
     }
 }
 
 // The word is one of those that the program was started with.
-fn given(word: &[u8]) -> bool {
-    let words = os::arg_count();
+fn given(rt: HostRuntime, word: &[u8]) -> bool {
+    let words = arg_count(rt);
     let mut found = false;
     let mut i: usize = 1;
     while i < words {
         let mut next = [0u8; 9];
-        let n = os::arg(i, &mut next);
+        let n = rt.arg(i, &mut next).unwrap_or(0);
         found = found | check::same(&next[..n], word);
         i += 1;
     }
     found
+}
+
+// How many words the program was started with, its own name among them.
+fn arg_count(rt: HostRuntime) -> usize {
+    let mut i: usize = 0;
+    while i < usize::MAX {
+        let mut next = [0u8; 9];
+        if matches!(rt.arg(i, &mut next), Err(FillError::NotPresent)) {
+            return i;
+        }
+        i += 1;
+    }
+    i
 }
 
 // 1 for a word that was given.
@@ -63,42 +78,42 @@ fn one(given: bool) -> usize
 }
 
 // Reads the image: 512 bytes, or what there is.
-fn open(lowest: bool, wish: Wish) {
+fn open(rt: HostRuntime, lowest: bool, wish: Wish) {
     let mut image = [0u8; 512];
-    let got = pipes::take(STDIN_FILENO, &mut image);
+    let got = pipes::take(&rt, &mut rt.stdin(), &mut image);
     if got.failed {
-        saying::unread_after(0);
+        saying::unread_after(rt, 0);
         return;
     }
     let n = got.count;
-    session(&image[..n], lowest, wish);
+    session(rt, &image[..n], lowest, wish);
 }
 
 // The load, for grants by the smallest hole or by the lowest start, and the calls where it is accepted.
-fn session(image: &[u8], lowest: bool, wish: Wish) {
+fn session(rt: HostRuntime, image: &[u8], lowest: bool, wish: Wish) {
     let begun = if lowest {
         executive::load_lowest(image)
     } else {
         executive::load(image)
     };
     let answer = executive::line(begun);
-    if !saying::line(telling::opening(answer, wish)) {
-        saying::unwritten_after(0);
+    if !saying::line(rt, telling::opening(answer, wish)) {
+        saying::unwritten_after(rt, 0);
         return;
     }
     if answer.refusal == 0 {
         let tables = begun.tables;
-        serve(tables, wish);
+        serve(rt, tables, wish);
     }
 }
 
 // The desk loop: it lends the tables to the executive, call by call. A proved loop has to end, and nothing says that the input does: it counts the calls that it
 // has answered, up to a number that no session reaches.
-fn serve(start: Tables, wish: Wish) {
+fn serve(rt: HostRuntime, start: Tables, wish: Wish) {
     let mut tables = start;
     let mut answered: u64 = 0;
     while answered < u64::MAX {
-        let call = take(answered);
+        let call = take(rt, answered);
         let bytes = call.bytes;
         let n = call.count;
         if n == 0 {
@@ -106,7 +121,7 @@ fn serve(start: Tables, wish: Wish) {
         }
         let before = tables;
         let answer = executive::khilzurgee_advance(&mut tables, &bytes[..n]);
-        let over = report(call, before, tables, answer, wish, answered);
+        let over = report(rt, call, before, tables, answer, wish, answered);
         if over {
             break;
         }
@@ -115,13 +130,13 @@ fn serve(start: Tables, wish: Wish) {
 }
 
 // Reads the next call: 16 bytes, or what is left. Where the input cannot be read that is said, and there is no call.
-fn take(answered: u64) -> Taken
+fn take(rt: HostRuntime, answered: u64) -> Taken
     ensures { result.count ≤ 16 }
 {
     let mut bytes = [0u8; 16];
-    let got = pipes::take(STDIN_FILENO, &mut bytes);
+    let got = pipes::take(&rt, &mut rt.stdin(), &mut bytes);
     if got.failed {
-        saying::unread_after(answered);
+        saying::unread_after(rt, answered);
         return Taken {
             bytes: bytes,
             count: 0,
@@ -135,6 +150,7 @@ fn take(answered: u64) -> Taken
 
 // Writes the line of an answered call. True where the session is over: the call was the short last one, or the line could not be written, which is said.
 fn report(
+    rt: HostRuntime,
     call: Taken,
     before: Tables,
     after: Tables,
@@ -146,9 +162,9 @@ fn report(
 {
     let bytes = call.bytes;
     let n = call.count;
-    if saying::line(telling::told(&bytes[..n], before, after, answer, wish)) {
+    if saying::line(rt, telling::told(&bytes[..n], before, after, answer, wish)) {
         return n < 16;
     }
-    saying::unwritten_after(answered);
+    saying::unwritten_after(rt, answered);
     true
 }
