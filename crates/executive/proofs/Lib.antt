@@ -1,5 +1,3 @@
 pub mod Begins
 pub mod Broken
-pub mod Lent
-pub mod Loading
 pub mod Unique
