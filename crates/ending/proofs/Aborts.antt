@@ -3,7 +3,7 @@
 use mathlib.Core.Path.{◌≡◌, refl, sym, ap, subst, ◌∙◌}
 use mathlib.Core.Logic.{◌≢◌, ⊎_elim}
 use mathlib.Core.List.{[], ◌∷◌}
-use Prim.Native.Nat.{ℕ, zero, suc, ◌-◌, ◌^◌, ◌≤◌, ◌<◌}
+use Prim.Native.Nat.{ℕ, zero, suc, ◌-◌, ◌≤◌}
 use native.Mathlib.Omega.{arith}
 use borrow.Author.Tests.{ne_eqb}
 use Rattle.threads.specs.Threads.{Sound}
@@ -102,9 +102,3 @@ module _ {t : Tables} {k n : ℕ} (a : Asked t k n) {g : Gone} (e : Stepped t k 
 
   pub step-tells : (r : Tables) → Told g.tables g.parent (n - 1) r → Told t k n r
   step-tells r f = abort-further a.1 e.0 (subst (λ (p : ℕ). Shows r (aborted (n - 1) p (read g.tables))) e.1 f)
-
-  pub step_falls : n - 1 < n
-  step_falls = omega (arith, abort-left n a.1)
-
-  pub step_fits : n < 2 ^ 8 → n - 1 < 2 ^ 8
-  step_fits f = omega (arith, f)

@@ -1,12 +1,11 @@
 -- The image of a directory as its bytes come together, those below the check from the front, and what writing gives.
-use mathlib.Core.Path.{◌≡◌, refl, sym, ap, ap₂, ◌∙◌}
+use mathlib.Core.Path.{◌≡◌, refl, sym, ap, ◌∙◌}
 use mathlib.Core.Logic.{⊎_elim}
-use mathlib.Core.List.{List, ◌++◌, map, append-nil}
+use mathlib.Core.List.{List, map}
 use Prim.Native.Nat.{ℕ}
 use native.Mathlib.Nat.{eq-zero-or-pos}
 use native.Mathlib.Omega.{arith}
-use lib.ListN.{length, take, drop, drop_of_length-le}
-use lib.Seq.{take-length}
+use lib.ListN.{length, take}
 use lib.Dec.{eqb}
 use borrow.Author.Tests.{eqb-true, eq-eqb, ne_eqb}
 use Rattle.words.specs.Rows.{first_of}
@@ -32,13 +31,6 @@ body-length d = listed-length (byte_of d) 510
 pub image-length : (d : Directory) → length (image_of d) ≡ 512
 unfolding image_of
 image-length d = sealed-length (body_of d) (body-length d)
-
--- all of one list copied over another that is as long
-pub copied : (image buffer : List ℕ) {after : List ℕ} → after ≡ take (length image) image ++ drop (length image) buffer → length image ≡ 512 → length buffer ≡ 512 → after ≡ image
-copied image buffer {after} e s t =
-    e
-    ∙ ap₂ (λ (l m : List ℕ). l ++ m) (take-length image) (drop_of_length-le buffer {i = length image} (omega arith))
-    ∙ append-nil image
 
 -- ---- What writing gives in the three cases.
 module _ (d : Directory) (buffer : List ℕ) where

@@ -1,5 +1,4 @@
 pub mod Held
 pub mod Unique
-pub mod Lies
 pub mod Lengths
 pub mod Readings
