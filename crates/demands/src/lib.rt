@@ -4,4 +4,3 @@
 // It has no code. `executive::step` is proved equal to `step_of`, `executive::load` to `tables_of` and `image::write` to `write_of`, so what is proved here of those is true
 // of the code that ships. A reader reads the statements; the proofs cite the laws of `lawful`. `crates/demands/test` tries wrong definitions, which are refused.
 #![tactic(auto)]
-

@@ -2,4 +2,3 @@
 //
 // specs/ has the rules as records, which the contracts of other crates cite; proofs/ has the laws, over the meaning alone.
 #![tactic(auto)]
-

@@ -2,4 +2,3 @@
 //
 // It has no code: what it shows is that the definitions give the numbers that the paper prints.
 #![tactic(auto)]
-
