@@ -15,7 +15,7 @@
 
 enum {
     ROOM = 1 << 18,
-    LIMIT = 64 << 10,
+    LIMIT = 40 << 10,
     FILL = 0xa5,
     NO_UNITS = 9,    /* a module of the station's image that needs no core */
     TASKS_IN_ALL = 24,

@@ -24,7 +24,7 @@
 
    The stack: a call was measured to take up to 56,440 bytes of it, a load
    2,536 and the image check 872. 'bench/stack' measures it again, and fails
-   where a function takes more than 64 KiB. */
+   where a function takes more than 40 KiB, as a call does today. */
 #ifndef KHILZURGEE_H
 #define KHILZURGEE_H
 
