@@ -1,4 +1,6 @@
 pub mod Each
 pub mod Some
-pub mod Placed
+pub mod Blank
+pub mod Behind
+pub mod Asked
 pub mod Unique

@@ -1,26 +1,25 @@
--- Laws of `some_of` over 1 .. n: how a loop gathers whether some number passes a test. By induction on the list.
-use mathlib.Core.Bool.{Bool, false, ◌||◌}
-use mathlib.Core.Path.{◌≡◌, refl, ap, ◌∙◌}
-use mathlib.Core.List.{List, [], ◌∷◌, ◌++◌}
-use Prim.Native.Nat.{ℕ, suc, ◌+◌, ◌≤◌}
-use native.Mathlib.Numerals.{add-one}
-use native.Mathlib.Omega.{arith}
-use Rattle.words.proofs.Truth.{or_assoc, or-none}
+-- Laws of `some_of` over 1 .. n: whether some element of a list behind its first passes a test, as `any` says and as the meaning does.
+use mathlib.Core.Bool.{Bool, ◌||◌}
+use mathlib.Core.Path.{◌≡◌, refl, sym, ap, ◌∙◌}
+use mathlib.Core.List.{List, [], ◌∷◌}
+use Prim.Native.Nat.{ℕ, zero, suc}
+use lib.ListN.{length, get_or}
+use Rattle.std.specs.List.{list_any}
+use Rattle.words.proofs.Truth.{or_assoc}
+use Rattle.words.proofs.Lists.{some-append}
 use Rattle.words.specs.Words.{one_to, some_of}
 
-some-last : (p : ℕ → Bool) (l : List ℕ) (x : ℕ) → some_of p (l ++ x ∷ []) ≡ (some_of p l || p x)
-unfolding some_of
-some-last p [] x = or-none (p x)
-some-last p (a ∷ l) x = ap (λ (b : Bool). p a || b) (some-last p l x) ∙ or_assoc (p a) (some_of p l) (p x)
+-- the first of 1 .. n + 1 and the others, each counted from its own first on
+some_first : (q : ℕ → Bool) (n : ℕ) → some_of q (one_to (suc n)) ≡ (q 1 || some_of (λ i. q (suc i)) (one_to n))
+unfolding one_to some_of
+some_first q zero = refl
+some_first q (suc n) =
+    some-append q (one_to (suc n)) (suc (suc n) ∷ [])
+    ∙ ap (λ (b : Bool). b || (some_of q (suc (suc n) ∷ []))) (some_first q n)
+    ∙ sym (or_assoc (q 1) (some_of (λ i. q (suc i)) (one_to n)) (some_of q (suc (suc n) ∷ [])))
+    ∙ ap (λ (b : Bool). q 1 || b) (sym (some-append (λ i. q (suc i)) (one_to n) (suc n ∷ [])))
 
-module _ (p : ℕ → Bool) where
-  pub some-start : false ≡ some_of p (one_to 0)
-  unfolding some_of one_to
-  some-start = refl
-
-  pub some_next : (n : ℕ) (a : Bool) → a ≡ some_of p (one_to n) → (a || p (n + 1)) ≡ some_of p (one_to (n + 1))
-  unfolding one_to
-  some_next n a e = rw (add-one n, some-last p (one_to n) (suc n), e)
-
-  pub some_end : (n m : ℕ) (a : Bool) → a ≡ some_of p (one_to n) → n ≤ m → m ≤ n → a ≡ some_of p (one_to m)
-  some_end n m a e h k = let z : n ≡ m = omega arith in e ∙ ap (λ (i : ℕ). some_of p (one_to i)) z
+pub some_rest : {A : Type 0} (p : A → Bool) (d a : A) (l : List A) → list_any p l ≡ some_of (λ i. p (get_or (a ∷ l) i d)) (one_to (length l))
+unfolding one_to some_of
+some_rest p d a [] = refl
+some_rest p d a (b ∷ l) = ap (λ (c : Bool). p b || c) (some_rest p d b l) ∙ sym (some_first (λ i. p (get_or (a ∷ b ∷ l) i d)) (length l))

@@ -8,14 +8,14 @@ ghost use Rattle.tables.specs.Held.{Shows};
 ghost use Rattle.meaning.specs.Finish.{freed_task, freed_request, freed_if_done, freed_done};
 ghost use Rattle.meaning.specs.Services.{created};
 
-use tables::names::{DONE, FREE, REQUEST_BLOCKS};
+use tables::names::{DONE, REQUEST_BLOCKS};
 use tables::{Request, Tables, Task};
 
-// The lowest-numbered block of a set; 32 where it is empty.
+// The lowest-numbered block of a set; 32 where it is empty, as `least` of specs/ has it.
 pub fn lowest(blocks: u32) -> u8
     ensures { result ≡ least blocks }
 {
-    words::sets32::least(blocks) as u8
+    words::sets::least(blocks) as u8
 }
 
 // A task of a module, child of `parent` or of none, in no place yet.
@@ -23,16 +23,9 @@ fn new_task(program: u8, parent: u8) -> Task
     ensures { result ≡ new_task program parent }
 {
     Task {
-        events: 0,
-        time: 0,
-        since: 0,
-        count: 0,
         program: program,
-        request: 0,
-        place: FREE,
         parent: parent,
-        core: 0,
-        start: 0,
+        ..Task::default()
     }
 }
 
@@ -42,7 +35,7 @@ pub fn create(t: Tables, k: u8, program: u8, parent: u8) -> Tables
     ensures { Shows result (created (read t) k program parent) }
 {
     let mut r = t;
-    r.free_tasks = words::sets32::dropping(r.free_tasks, k as u32);
+    r.free_tasks = words::sets::dropping(r.free_tasks, k as u32);
     r.tasks[k as usize] = new_task(program, parent);
     r
 }
@@ -53,25 +46,19 @@ pub fn free_task(t: Tables, k: u8) -> Tables
     ensures { Shows result (freed_task (read t) k) }
 {
     let mut r = t;
-    r.free_tasks = words::sets32::adding(r.free_tasks, k as u32);
+    r.free_tasks = words::sets::adding(r.free_tasks, k as u32);
     r.tasks[k as usize] = new_task(0, 0);
     r
 }
 
-// The request block n is free again.
+// The request block n is free again. As `free_task`, but for the arrays and the sets that it names: one form of both would take those four, and be no plainer.
 pub fn free_request(t: Tables, n: u8) -> Tables
     requires { Sound t.threads × (n < 17) }
     ensures { Shows result (freed_request (read t) n) }
 {
     let mut r = t;
-    r.free_requests = words::sets32::adding(r.free_requests, n as u32);
-    r.requests[n as usize] = Request {
-        place: FREE,
-        owner: 0,
-        device: 0,
-        command: 0,
-        bytes: 0,
-    };
+    r.free_requests = words::sets::adding(r.free_requests, n as u32);
+    r.requests[n as usize] = Request::default();
     r
 }
 
@@ -93,9 +80,7 @@ pub fn free_done(t: Tables, k: u8) -> Tables
     ensures { Shows result (freed_done (read t) k) }
 {
     let mut u = t;
-    let mut n: u8 = 0;
-    while n < REQUEST_BLOCKS {
-        n += 1;
+    for n in 1..=REQUEST_BLOCKS {
         u = free_if_done(u, k, n);
     }
     u

@@ -24,14 +24,15 @@ use tables::{Tables, Task, places};
 pub fn moving(clock: u32, task: Task, place: u8) -> Task
     ensures { result ≡ moving clock task place }
 {
-    let mut x = task;
-    x.place = place;
-    x.since = places::since(clock, place);
-    x.count = 0;
-    x.events = 0;
-    x.time = 0;
-    x.request = 0;
-    x
+    Task {
+        place: place,
+        since: places::since(clock, place),
+        count: 0,
+        events: 0,
+        time: 0,
+        request: 0,
+        ..task
+    }
 }
 
 // The entry of the task k's module: its level and its core units.
@@ -44,7 +45,7 @@ pub fn entry_of(t: Tables, k: u8) -> Entry
     d.entries[x.program as usize]
 }
 
-// The first of a queue, or 0.
+// The first of a queue, or 0, which is how the tables and `hd` of specs/ say none.
 pub fn first_of(t: Tables, q: u8) -> u8
     requires { Sound t.threads × (q < 9) }
     ensures { result ≡ hd (queue (read t) q) }

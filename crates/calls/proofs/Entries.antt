@@ -11,6 +11,11 @@ use borrow.Author.Tests.{eqb-true, ne_eqb, ltb-true}
 use Rattle.words.specs.Words.{if◌then◌else◌, below, all_of, ◌among◌}
 use Rattle.words.proofs.Lists.{all-at}
 use Rattle.words.proofs.Truth.{and_left, and_right}
+use denote.Enum.Bare.{sameb, same_true}
+use borrow.Author.Rules.{rules}
+use Rattle.calls.specs.contracts.codes.Status.{the_type}
+use Rattle.calls.specs.declared.codes.Status.{Status}
+use Rattle.calls.specs.declared.codes.Status.TheVariants.{Unknown, Known, NeedsTask}
 use Rattle.calls.specs.Calls.{services, interrupts, known, needs_task, code_entry}
 
 -- how many the table has
@@ -19,11 +24,14 @@ entries = 36
 
 -- ---- Codes in the table: the test over the whole of it.
 
-abbrev right : List ℕ → ℕ → Bool
-right table code = eqb (get_or table code 0) (code_entry code)
+abbrev same : Status → Status → Bool
+same = sameb the_type
 
-pub table-right : (table : List ℕ) (code : ℕ) → code < entries → all_of (right table) (below entries) ≡ true → get_or table code 0 ≡ code_entry code
-table-right table code low test = eqb-true (get_or table code 0) (code_entry code) (all-at (right table) entries code test low)
+abbrev right : List Status → ℕ → Bool
+right table code = same (get_or table code Unknown) (code_entry code)
+
+pub table-right : (table : List Status) (code : ℕ) → code < entries → all_of (right table) (below entries) ≡ true → get_or table code Unknown ≡ code_entry code
+table-right table code low test = same_true the_type (search rules) (get_or table code Unknown) (code_entry code) (all-at (right table) entries code test low)
 
 -- ---- Codes past it.
 
@@ -45,7 +53,7 @@ needs-past : (code : ℕ) → entries ≤ code → needs_task code ≡ false
 unfolding needs_task all_of
 needs-past code past = rw (among-past services refl code past, ne_eqb code 34 (λ z. omega arith))
 
-pub entry_past : (code : ℕ) → entries ≤ code → 0 ≡ code_entry code
+pub entry_past : (code : ℕ) → entries ≤ code → Unknown ≡ code_entry code
 unfolding code_entry
 entry_past code past = rw (needs-past code past, known_past code past)
 
@@ -60,23 +68,23 @@ unfolding needs_task known ◌among◌
 needs-known code =
     or-more (code among services) (eqb code 34) (code among interrupts) (λ z. ap (λ (n : ℕ). n among interrupts) (eqb-true code 34 z))
 
-abbrev entry : Bool → Bool → ℕ
-entry needs is = if needs then 2 else if is then 1 else 0
+abbrev entry : Bool → Bool → Status
+entry needs is = if needs then NeedsTask else if is then Known else Unknown
 
-says-needs : (needs is : Bool) → eqb (entry needs is) 2 ≡ needs
+says-needs : (needs is : Bool) → same (entry needs is) NeedsTask ≡ needs
 says-needs true is = refl
 says-needs false true = refl
 says-needs false false = refl
 
-says-known : (needs is : Bool) → (needs ≡ true → is ≡ true) → not (eqb (entry needs is) 0) ≡ is
+says-known : (needs is : Bool) → (needs ≡ true → is ≡ true) → not (same (entry needs is) Unknown) ≡ is
 says-known true is h = sym (h refl)
 says-known false true h = refl
 says-known false false h = refl
 
-pub entry-needs : (code : ℕ) → eqb (code_entry code) 2 ≡ needs_task code
+pub entry-needs : (code : ℕ) → same (code_entry code) NeedsTask ≡ needs_task code
 unfolding code_entry
 entry-needs code = says-needs (needs_task code) (known code)
 
-pub entry_known : (code : ℕ) → not (eqb (code_entry code) 0) ≡ known code
+pub entry_known : (code : ℕ) → not (same (code_entry code) Unknown) ≡ known code
 unfolding code_entry
 entry_known code = says-known (needs_task code) (known code) (needs-known code)

@@ -8,15 +8,18 @@ use native.Mathlib.Omega.{arith}
 use lib.Dec.{eqb}
 use lib.ListN.{length, get_or}
 use borrow.Author.Tests.{eqb-true}
+use Rattle.std.specs.Prelude.{Result, Ok, Err}
 use Rattle.words.specs.Words.{if◌then◌else◌}
 use Rattle.words.proofs.Once.{OneAnswer}
-use Rattle.calls.specs.Calls.{call_of, arrival_of, arrival}
+use Rattle.answers.specs.declared.Refusal.{Refusal}
+use Rattle.answers.specs.declared.Refusal.TheVariants.{CallLength}
+use Rattle.answers.specs.Answer.{refused_by}
+use Rattle.calls.specs.Calls.{call_of, arrival}
 use Rattle.calls.specs.declared.Call.{Call}
-use Rattle.calls.specs.declared.Arrival.TheVariants.{Came}
 use Rattle.calls.specs.declared.Answer.{Answer}
-use Rattle.calls.proofs.read.Reads as read
+use Rattle.calls.proofs.CallTryFromRefSliceU8.try_from.Reads as read
 use Rattle.calls.proofs.Written.{bytes_of, written_back}
-use Rattle.calls.proofs.write.Reads as write
+use Rattle.calls.proofs.ArrayU816FromCall.from.Reads as write
 use Rattle.calls.proofs.numbers.Reads as numbers
 use Rattle.calls.proofs.codes.is_known.Reads as is_Known
 use Rattle.calls.proofs.codes.needs_task.Reads as needs-task
@@ -30,11 +33,11 @@ record Arrived (b : List ℕ) (c : Call) : Type 0 where
   spelt : call_of b ≡ c
 
 arrived-where : (whole : Bool) (b : List ℕ) (c : Call) → (whole ≡ true → length b ≡ 16)
-    → arrival_of (if whole then 0 else 10) (call_of b) ≡ Came c → Arrived b c
+    → ◌≡◌ {A = Result Call Refusal} (if whole then Ok (call_of b) else Err CallLength) (Ok c) → Arrived b c
 arrived-where true b c long e = record { long = long refl; spelt = cc }
-arrived-where false b c long e = let z : ◌≡◌ {A = ℕ} 0 1 = cc in absurd (omega arith)
+arrived-where false b c long e = let z : ◌≡◌ {A = ℕ} 10 0 = ap refused_by e in absurd (omega arith)
 
-arrived : (b : List ℕ) (c : Call) → arrival b ≡ Came c → Arrived b c
+arrived : (b : List ℕ) (c : Call) → arrival b ≡ Ok c → Arrived b c
 unfolding arrival
 arrived b c e = arrived-where (eqb (length b) 16) b c (eqb-true (length b) 16) e
 

@@ -2,36 +2,33 @@
 -- `number_digits`; and 16 bytes are those of the call that they spell, `digit-number`.
 use mathlib.Core.Path.{◌≡◌, refl, sym, ◌∙◌}
 use mathlib.Core.Logic.{⊎_elim}
-use mathlib.Core.List.{List, [], ◌∷◌}
+use mathlib.Core.List.{List, ◌∷◌, ◌++◌}
 use Prim.Native.Nat.{ℕ, zero, suc, ◌+◌, ◌-◌, ◌≤◌, ◌<◌, ◌^◌}
 use native.Mathlib.Omega.{arith}
 use lib.ListN.{length, get_or}
 use lib.Seq.{ext_get_or}
+use Rattle.std.specs.Prelude.{Ok}
+use Rattle.std.specs.Int.{w32, w64, to_le_bytes}
+use Rattle.std.proofs.Math.Nat.{div-one}
 use Rattle.words.specs.Bytes.{digit}
 use Rattle.words.proofs.Numbers.{number_digits, digit-number}
 use Rattle.words.proofs.Places.{under-or-from}
 use Rattle.calls.specs.Calls.{call_of, arrival}
 use Rattle.calls.specs.declared.Call.{Call}
-use Rattle.calls.specs.declared.Arrival.TheVariants.{Came}
-
-abbrev eight : ℕ → List ℕ
-eight x = digit x 0 ∷ digit x 1 ∷ digit x 2 ∷ digit x 3 ∷ digit x 4 ∷ digit x 5 ∷ digit x 6 ∷ digit x 7 ∷ []
 
 abbrev pub bytes_of : Call → List ℕ
-bytes_of c =
-    c.code ∷ c.kind ∷ c.number ∷ c.value ∷ digit c.amount 0 ∷ digit c.amount 1 ∷ digit c.amount 2 ∷ digit c.amount 3
-    ∷ eight c.events
+bytes_of c = c.code ∷ c.kind ∷ c.number ∷ c.value ∷ (to_le_bytes w32 c.amount ++ to_le_bytes w64 c.events)
 
 module _ (c : Call) where
   amount-at : (j : ℕ) → j < 4 → get_or (bytes_of c) (4 + j) 0 ≡ digit c.amount j
-  amount-at zero low = refl
+  amount-at zero low = rw (div-one c.amount)
   amount-at (suc zero) low = refl
   amount-at (suc (suc zero)) low = refl
   amount-at (suc (suc (suc zero))) low = refl
   amount-at (suc (suc (suc (suc j)))) low = absurd (omega arith)
 
   events-at : (j : ℕ) → j < 8 → get_or (bytes_of c) (8 + j) 0 ≡ digit c.events j
-  events-at zero low = refl
+  events-at zero low = rw (div-one c.events)
   events-at (suc zero) low = refl
   events-at (suc (suc zero)) low = refl
   events-at (suc (suc (suc zero))) low = refl
@@ -41,7 +38,7 @@ module _ (c : Call) where
   events-at (suc (suc (suc (suc (suc (suc (suc zero))))))) low = refl
   events-at (suc (suc (suc (suc (suc (suc (suc (suc j)))))))) low = absurd (omega arith)
 
-  pub written : c.amount < 256 ^ 4 → c.events < 256 ^ 8 → arrival (bytes_of c) ≡ Came c
+  pub written : c.amount < 256 ^ 4 → c.events < 256 ^ 8 → arrival (bytes_of c) ≡ Ok c
   unfolding arrival call_of
   written few all =
       rw (number_digits (bytes_of c) c.amount 4 4 amount-at few, number_digits (bytes_of c) c.events 8 8 events-at all)

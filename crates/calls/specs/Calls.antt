@@ -1,24 +1,18 @@
 -- Document 01, 'Calls': the bytes of a call, the codes, the answer.
-use Rattle.std.specs.Prelude.{Bool, ◌||◌, List, [], ◌∷◌, ℕ, length, get_or, eqb, if◌then◌else◌}
+use Rattle.std.specs.Prelude.{Bool, ◌||◌, List, [], ◌∷◌, ℕ, length, get_or, eqb, if◌then◌else◌, Result, Ok, Err}
 use Rattle.words.specs.Words.{◌among◌}
 use Rattle.words.specs.Bytes.{number}
-use Rattle.answers.specs.declared.Outcome.{Outcome}
-use Rattle.answers.specs.Answer.{refusal_of, result_of}
+use Rattle.answers.specs.declared.Refusal.{Refusal}
+use Rattle.answers.specs.declared.Refusal.TheVariants.{CallLength}
+use Rattle.answers.specs.Answer.{Outcome, refusal_of, result_of, refused_by}
 use Rattle.calls.specs.declared.Call.{Call}
-use Rattle.calls.specs.declared.Arrival.{Arrival}
-use Rattle.calls.specs.declared.Arrival.TheVariants.{Came, Cut}
+use Rattle.calls.specs.declared.codes.Status.{Status}
+use Rattle.calls.specs.declared.codes.Status.TheVariants.{Unknown, Known, NeedsTask}
 
 -- "code, kind, number, value, a 4-byte amount, an 8-byte event set, little-endian"
 unfoldable pub call_of : List ℕ → Call
 call_of b =
-    record {
-      code = get_or b 0 0;
-      kind = get_or b 1 0;
-      number = get_or b 2 0;
-      value = get_or b 3 0;
-      amount = number b 4 4;
-      events = number b 8 8;
-    }
+    record { code = get_or b 0 0; kind = get_or b 1 0; number = get_or b 2 0; value = get_or b 3 0; amount = number b 4 4; events = number b 8 8 }
 
 -- "Service calls need a running task: 1 FREEMAIN, 5 LINK, 6 END, 7 SCHEDULE, 8 WAIT, 9 SIGNAL, 10 TEST EVENT, 12 DISPATCH CHECK, 13 READ,
 -- 14 WRITE, 15 CHECK."
@@ -89,18 +83,13 @@ numbers o running = refusal_of o ∷ result_of o ∷ (if eqb (refusal_of o) 9 th
 -- ==== Inside: words for contracts below the public face. What the executive, its library and the demands claim does not rest on them.
 
 -- the number by which what arrived is refused, 0 for a call
-abbrev pub cut_by : Arrival → ℕ
-cut_by (Came c) = 0
-cut_by (Cut n) = n
-
--- what arrived, by this number and with this call
-abbrev pub arrival_of : ℕ → Call → Arrival
-arrival_of refusal c = if eqb refusal 0 then Came c else Cut refusal
+abbrev pub cut_by : Result Call Refusal → ℕ
+cut_by = refused_by
 
 -- "A call arrives as exactly 16 bytes"; "10 | not 16 bytes"
-unfoldable pub arrival : List ℕ → Arrival
-arrival b = arrival_of (if eqb (length b) 16 then 0 else 10) (call_of b)
+unfoldable pub arrival : List ℕ → Result Call Refusal
+arrival b = if eqb (length b) 16 then Ok (call_of b) else Err CallLength
 
--- "A const array of 36 entries says known or unknown and whether a running task is needed": 0 unknown, 1 known, 2 known and needs one
-unfoldable pub code_entry : ℕ → ℕ
-code_entry code = if needs_task code then 2 else if known code then 1 else 0
+-- "A const array of 36 entries says known or unknown and whether a running task is needed"
+unfoldable pub code_entry : ℕ → Status
+code_entry code = if needs_task code then NeedsTask else if known code then Known else Unknown

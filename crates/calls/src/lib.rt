@@ -5,13 +5,14 @@
 
 pub mod codes;
 
-ghost use Rattle.std.specs.Prelude.{[], ◌∷◌, ◌≡◌};
-ghost use Rattle.calls.specs.Calls.{arrival_of, arrival, numbers};
+ghost use Rattle.std.specs.Prelude.{[], ◌∷◌, ◌≡◌, Ok};
+ghost use Rattle.answers.specs.Answer.{answered};
+ghost use Rattle.calls.specs.Calls.{arrival, numbers};
 
-use answers::Outcome;
+use answers::Refusal;
 
 // A call: which it is, and its fields, used or not.
-#[derive(Clone, Copy)]
+#[derive(Clone, Copy, Debug, PartialEq, Eq, Default)]
 pub struct Call {
     pub code: u8,
     pub kind: u8,
@@ -21,16 +22,9 @@ pub struct Call {
     pub events: u64,
 }
 
-// What the bytes of a call are: a call, or refused by a number because they are not 16.
-#[derive(Clone, Copy)]
-pub enum Arrival {
-    Came(Call),
-    Cut(u8),
-}
-
 // The three numbers of an answer: refusal (0 if accepted), result, running task afterwards (0 if idle).
 #[repr(C)]
-#[derive(Clone, Copy)]
+#[derive(Clone, Copy, Debug, PartialEq, Eq)]
 pub struct Answer {
     pub refusal: u8,
     pub result: u8,
@@ -38,62 +32,71 @@ pub struct Answer {
 }
 
 // Reads a call from any bytes.
-pub fn read(bytes: &[u8]) -> Arrival
-    ensures { result ≡ arrival bytes.now }
-{
-    if bytes.len() != 16 {
-        return Arrival::Cut(10);
+impl TryFrom<&[u8]> for Call {
+    type Error = Refusal;
+
+    ghost try_from_gives = { λ bytes result. result ≡ arrival bytes.now };
+
+    fn try_from(bytes: &[u8]) -> Result<Call, Refusal> {
+        if bytes.len() != 16 {
+            return Err(Refusal::CallLength);
+        }
+        Ok(Call {
+            code: bytes[0],
+            kind: bytes[1],
+            number: bytes[2],
+            value: bytes[3],
+            amount: words::number(bytes, 4, 4) as u32,
+            events: words::number(bytes, 8, 8),
+        })
     }
-    Arrival::Came(Call {
-        code: bytes[0],
-        kind: bytes[1],
-        number: bytes[2],
-        value: bytes[3],
-        amount: words::number(bytes, 4, 4) as u32,
-        events: words::number(bytes, 8, 8),
-    })
 }
 
 // The 16 bytes of a call: reading them gives the call again.
-pub fn write(call: Call) -> [u8; 16]
-    ensures { arrival result ≡ arrival_of 0 call }
-{
-    let amount = call.amount as u64;
-    let events = call.events;
-    [
-        call.code,
-        call.kind,
-        call.number,
-        call.value,
-        words::digit(amount, 0),
-        words::digit(amount, 1),
-        words::digit(amount, 2),
-        words::digit(amount, 3),
-        words::digit(events, 0),
-        words::digit(events, 1),
-        words::digit(events, 2),
-        words::digit(events, 3),
-        words::digit(events, 4),
-        words::digit(events, 5),
-        words::digit(events, 6),
-        words::digit(events, 7),
-    ]
+impl From<Call> for [u8; 16] {
+    ghost from_gives = { λ call bytes. arrival bytes ≡ Ok call };
+
+    fn from(call: Call) -> [u8; 16] {
+        let [a0, a1, a2, a3] = call.amount.to_le_bytes();
+        let [e0, e1, e2, e3, e4, e5, e6, e7] = call.events.to_le_bytes();
+        [
+            call.code,
+            call.kind,
+            call.number,
+            call.value,
+            a0,
+            a1,
+            a2,
+            a3,
+            e0,
+            e1,
+            e2,
+            e3,
+            e4,
+            e5,
+            e6,
+            e7,
+        ]
+    }
 }
 
 // The numbers of an answer while `running` is the running task; with refusal 9 no task is named.
-pub fn numbers(outcome: Outcome, running: u8) -> Answer
-    ensures { result.refusal ∷ result.result ∷ result.running ∷ [] ≡ numbers outcome running }
+pub fn numbers(outcome: Result<u8, Refusal>, running: u8) -> Answer
+    ensures { result.refusal ∷ result.result ∷ result.running ∷ [] ≡ numbers (answered outcome) running }
 {
     match outcome {
-        Outcome::Accepted(result) => Answer {
+        Ok(result) => Answer {
             refusal: 0,
-            result: result,
-            running: running,
+            result,
+            running,
         },
-        Outcome::Refused(number) => {
-            let named = if number == 9 { 0 } else { running };
+        Err(refusal) => {
+            let named = match refusal {
+                Refusal::Rules => 0,
+                _ => running,
+            };
             Answer {
-                refusal: number,
+                refusal: u8::from(refusal),
                 result: 0,
                 running: named,
             }

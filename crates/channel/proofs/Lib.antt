@@ -1,5 +1,4 @@
 pub mod Started
-pub mod Levels
 pub mod Shaped
 pub mod Asked
 pub mod Transferred

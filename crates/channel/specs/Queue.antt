@@ -1,21 +1,15 @@
--- What the channel's functions ask of the tables beside sound pointers, and the levels by which its queue is in order.
-use Rattle.std.specs.Prelude.{List, ◌≡◌, ℕ, ◌≤◌, ◌<◌, suc, length, get_or}
-use Rattle.threads.specs.Threads.{Outside, BLOCKS}
+-- What the channel's functions ask of the tables beside sound pointers.
+use Rattle.std.specs.Prelude.{ℕ, ◌≤◌, ◌<◌, suc}
+use Rattle.threads.specs.Threads.{Outside}
 use Rattle.tables.specs.declared.Tables.{Tables}
 use Rattle.tables.specs.State.{State, channel_queue, node, request_at, task_at, read}
 use Rattle.tables.specs.Held.{Held}
-use Rattle.meaning.specs.Channel.{channel_level}
 use Rattle.tables.specs.Blocks.{request_blocks, task_blocks}
 
 -- the owner of each request block is a task block, of a module of the directory
 pub record Owned (s : State) : Type 0 where
   pub owner : (r : ℕ) → r ≤ request_blocks → (request_at s r).owner < suc task_blocks
   pub program : (r : ℕ) → r ≤ request_blocks → (task_at s (request_at s r).owner).program < 32
-
--- the numbers `keys` have the levels of the owners of the first n request blocks, each at the request block's number in a queue
-pub record Levels (s : State) (n : ℕ) (keys : List ℕ) : Type 0 where
-  pub cells : length keys ≡ suc BLOCKS
-  pub level : (r : ℕ) → 1 ≤ r → r ≤ n → get_or keys (node r) 0 ≡ channel_level s (node r)
 
 -- the request block r is in no queue: what entering the channel queue asks
 pub record Entering (t : Tables) (r : ℕ) : Type 0 where

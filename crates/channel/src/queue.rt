@@ -1,29 +1,22 @@
 // The channel and its queue.
+ghost use Rattle.std.specs.Prelude.{◌≡◌, ◌<◌, ◌≤◌};
+ghost use Rattle.threads.specs.Threads.{BLOCKS};
 ghost use Rattle.tables.specs.State.{read};
 ghost use Rattle.tables.specs.Held.{Held, Shows};
-ghost use Rattle.meaning.specs.Channel.{queued, channel_filled};
-ghost use Rattle.channel.specs.Queue.{Owned, Levels, Entering};
+ghost use Rattle.meaning.specs.Channel.{channel_level, queued, channel_filled};
+ghost use Rattle.channel.specs.Queue.{Owned, Entering};
 
 use tables::Tables;
-use tables::names::{CHANNEL_QUEUE, ON_CHANNEL, REQUEST_COUNT, TASK_BLOCKS, TASK_COUNT};
-use threads::CELLS;
+use tables::names::{CHANNEL_QUEUE, ON_CHANNEL, TASK_BLOCKS};
 
-// The level of each request block's owner, at the request block's number in a queue.
-fn levels(t: Tables) -> [u32; CELLS]
-    requires { Owned (read t) }
-    ensures { Levels (read t) 16 result }
+// The level of the owner of the request block whose number in a queue is `n`.
+fn level(t: &Tables, n: u8) -> u32
+    requires { Owned (read t.now) × (24 < n) × (n ≤ BLOCKS) }
+    ensures { result ≡ channel_level (read t.now) n }
 {
-    let d = t.directory;
-    let mut keys: [u32; CELLS] = [0; CELLS];
-    let mut r: usize = 0;
-    while r < REQUEST_COUNT {
-        r += 1;
-        let q = t.requests[r];
-        let x = t.tasks[q.owner as usize];
-        let e = d.entries[x.program as usize];
-        keys[r + TASK_COUNT] = e.level as u32;
-    }
-    keys
+    let request = t.requests[(n - TASK_BLOCKS) as usize];
+    let task = t.tasks[request.owner as usize];
+    t.directory.entries[task.program as usize].level as u32
 }
 
 // The request block r, of no queue, in the channel queue by its owner's level, then arrival.
@@ -31,10 +24,8 @@ pub fn enter(t: Tables, r: u8) -> Tables
     requires { Entering t r }
     ensures { Shows result (queued (read t) r) }
 {
-    let keys = levels(t);
     let mut u = t;
-    let h = threads::enter(u.threads, CHANNEL_QUEUE, r + TASK_BLOCKS, keys);
-    u.threads = h;
+    u.threads = threads::enter(t.threads, CHANNEL_QUEUE, r + TASK_BLOCKS, |n| level(&t, n));
     u
 }
 

@@ -20,7 +20,7 @@ fn ask(t: Tables, r: u8, c: Call) -> Tables
     ensures { Shows result (asked (read t) r c) }
 {
     let mut u = t;
-    u.free_requests = words::sets32::dropping(u.free_requests, r as u32);
+    u.free_requests = words::sets::dropping(u.free_requests, r as u32);
     u.requests[r as usize] = Request {
         place: QUEUED,
         owner: u.running,

@@ -1,22 +1,26 @@
 -- What a line that is a call gives.
-use Rattle.std.specs.Prelude.{◌≡◌, ℕ, ◌≤◌, Bool, true, false, ◌||◌, List, ◌==◌}
+use Rattle.std.specs.Prelude.{◌≡◌, ℕ, ◌≤◌, Bool, true, false, ◌||◌, ◌==◌, Result, IfOk}
 use Rattle.calls.specs.Calls.{SCHEDULE, WAIT, known}
 use Rattle.calls.specs.declared.Call.{Call}
-use Rattle.faults.specs.Scans.{Inside}
-use Rattle.compose.specs.declared.operands.Operands.{Operands}
+use Rattle.faults.specs.declared.Wrong.{Wrong}
+use Rattle.compose.specs.declared.verbs.Verb.{Verb}
+use Rattle.compose.specs.declared.verbs.Verb.TheVariants.{Every, Events, Module, Any, Call as CallOf}
 
--- one of document 01's codes, or 0 for none
-abbrev pub code_or_none : ℕ → Bool
-code_or_none code = code == 0 || known code
+-- what a first word stands for has one of document 01's codes, or none
+abbrev pub verb_known : Verb → Bool
+verb_known Every = true
+verb_known Events = true
+verb_known Module = true
+verb_known Any = true
+verb_known (CallOf code shape) = known code
 
 -- "Only codes 7 and 8 use kind and set."
 abbrev pub conditional : ℕ → Bool
 conditional code = code == SCHEDULE || code == WAIT
 
--- What follows a first word has a kind that exists, and the scan lies in the line.
-pub record Follows (line : List ℕ) (r : Operands) : Type 0 where
-  pub kind : r.call.kind ≤ 3
-  pub scan : Inside line 0 r.scan
+-- What follows a first word has a kind that exists.
+abbrev pub Follows : Result Call Wrong → Type 0
+Follows r = IfOk r (λ c. c.kind ≤ 3)
 
 -- The call has the code that the line names, a kind that exists, and the numbers that were read; where the code uses no kind and no set, both are 0.
 pub record Composes (named : ℕ) (given r : Call) : Type 0 where

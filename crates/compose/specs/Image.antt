@@ -1,6 +1,5 @@
 -- What an image line changes.
 use Rattle.std.specs.Prelude.{ℕ, ◌+◌, set, nat_lt, if◌then◌else◌}
-use Rattle.calls.specs.declared.Call.{Call}
 use Rattle.image.specs.declared.Directory.{Directory}
 use Rattle.image.specs.declared.Entry.{Entry}
 
@@ -10,10 +9,6 @@ with_every d n = record { modules = d.modules; every = n; defined = d.defined; e
 
 abbrev pub with_events : Directory → ℕ → Directory
 with_events d set = record { modules = d.modules; every = d.every; defined = set; entries = d.entries }
-
--- the entry of a module line: its level, units, flags and entry point, in the fields of a call
-abbrev pub entry_of : Call → Entry
-entry_of c = record { level = c.number; units = c.value; flags = c.kind; point = c.amount }
 
 -- the directory with one module more, behind those that it has; as it was where it has 32
 abbrev pub with_module : Directory → Entry → Directory

@@ -1,4 +1,3 @@
 pub mod Calls
 pub mod Image
-pub mod Session
 pub mod Words

@@ -1,9 +1,13 @@
--- A scan of a line that has read a number.
-use Rattle.std.specs.Prelude.{ℕ, ◌≤◌, List}
-use Rattle.faults.specs.Scans.{Inside}
-use Rattle.faults.specs.declared.Scan.{Scan}
+-- A scan of a line that goes on.
+use Rattle.std.specs.Prelude.{◌≡◌, ◌≤◌, drop}
+use Rattle.text.specs.Words.{first_word}
+use Rattle.compose.specs.declared.scan.Scan.{Scan}
 
--- what it names lies in the line, and the number is at most `most`
-pub record Numbered (line : List ℕ) (least most : ℕ) (s : Scan) : Type 0 where
-  pub scan : Inside line least s
-  pub low : s.value ≤ most
+-- it is in the same line, and no further back
+pub record Further (old new : Scan) : Type 0 where
+  pub line : new.line.now ≡ old.line.now
+  pub on : old.at ≤ new.at
+
+-- no word is left: the next one is empty
+abbrev pub Ended : Scan → Type 0
+Ended s = (first_word (drop s.at s.line.now)).from ≡ (first_word (drop s.at s.line.now)).to

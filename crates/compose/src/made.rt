@@ -1,7 +1,7 @@
 // What the numbers of a line make: a call of the line's code, or another directory.
 ghost use Rattle.std.specs.Prelude.{◌≡◌, ◌≤◌};
 ghost use Rattle.compose.specs.Calls.{Composes};
-ghost use Rattle.compose.specs.Image.{with_every, with_events, with_module, entry_of};
+ghost use Rattle.compose.specs.Image.{with_every, with_events, with_module};
 
 use calls::{Call, codes};
 use image::{Directory, Entry};
@@ -11,46 +11,41 @@ pub fn call(code: u8, c: Call) -> Call
     requires { c.kind ≤ 3 }
     ensures { Composes code c result }
 {
-    let mut made = c;
-    made.code = code;
     if (code == codes::SCHEDULE) | (code == codes::WAIT) {
-        return made;
+        return Call { code, ..c };
     }
-    made.kind = 0;
-    made.events = 0;
-    made
+    Call {
+        code,
+        kind: 0,
+        events: 0,
+        ..c
+    }
 }
 
 // every: N.
-pub fn every(mut d: Directory, c: Call) -> Directory
-    ensures { result ≡ with_every d c.number }
+pub fn every(d: Directory, n: u8) -> Directory
+    ensures { result ≡ with_every d n }
 {
-    d.every = c.number as u32;
-    d
+    Directory {
+        every: n.into(),
+        ..d
+    }
 }
 
 // events: the defined ones.
-pub fn events(mut d: Directory, c: Call) -> Directory
-    ensures { result ≡ with_events d c.events }
+pub fn events(d: Directory, set: u64) -> Directory
+    ensures { result ≡ with_events d set }
 {
-    d.defined = c.events;
-    d
+    Directory { defined: set, ..d }
 }
 
 // module: one more, where the directory has room for it.
-pub fn with_module(d: Directory, c: Call) -> Directory
-    ensures { result ≡ with_module d (entry_of c) }
+pub fn with_module(mut d: Directory, e: Entry) -> Directory
+    ensures { result ≡ with_module d e }
 {
-    let mut after = d;
-    let m = d.modules;
-    if m < 32 {
-        after.entries[m as usize] = Entry {
-            level: c.number,
-            units: c.value,
-            flags: c.kind as u16,
-            point: c.amount,
-        };
-        after.modules = m + 1;
+    if d.modules < 32 {
+        d.entries[d.modules as usize] = e;
+        d.modules += 1;
     }
-    after
+    d
 }

@@ -12,37 +12,31 @@ mod scan;
 mod session;
 mod verbs;
 
-ghost use Rattle.compose.specs.Session.{Held};
-
-use session::Session;
+use saying::Trouble;
+use session::{Over, Session};
 
 // Reads once, and takes what came; where the input has ended, so does the session.
-fn some(rt: HostRuntime, s: Session) -> Session
-    requires { Held s }
-    ensures { Held result }
-{
-    let mut buffer = [0u8; 512];
-    let got = pipes::some(&rt, &mut rt.stdin(), &mut buffer);
-    if got.failed {
-        saying::unread_after(rt, s.calls);
-        return session::stopped(s);
+fn some(rt: HostRuntime, s: &mut Session) -> Result<(), Over> {
+    let mut buffer = [0; 512];
+    match pipes::some(&rt, &mut rt.stdin(), &mut buffer) {
+        Ok(0) => {
+            s.finish(rt)?;
+            Err(Over)
+        }
+        Ok(n) => s.feed(rt, &buffer[..n]),
+        Err(_) => {
+            Trouble::Unread.say(rt, Some(s.calls));
+            Err(Over)
+        }
     }
-    let n = got.count;
-    if n == 0 {
-        return session::finish(rt, s);
-    }
-    session::feed(rt, s, &buffer[..n])
 }
 
-// A proved loop has to end, and nothing says that the input does: the turns are counted down from a number that no run uses up.
+// A proved loop has to end, and nothing says that the input does: the reads are counted, up to a number that no run uses up.
 fn main(rt: HostRuntime) {
-    let mut s = session::start();
-    let mut turns = u64::MAX;
-    while 0 < turns {
-        if !s.going {
+    let mut s = Session::new();
+    for _ in 0..u64::MAX {
+        if some(rt, &mut s).is_err() {
             return;
         }
-        s = some(rt, s);
-        turns -= 1;
     }
 }

@@ -1,262 +1,176 @@
-// What follows a line's first word, by its shape: the numbers of a call, or those of a line of the image in the same fields.
+// What follows a line's first word, by its shape: the numbers of a call, or the module of a line of the image. Numbers that a line does not name are 0.
 ghost use Rattle.std.specs.Prelude.{◌≤◌};
 ghost use Rattle.compose.specs.Calls.{Follows};
-ghost use Rattle.faults.specs.Scans.{Inside};
-ghost use Rattle.compose.specs.Words.{Numbered};
+ghost use Rattle.compose.specs.Words.{Further};
 
+use crate::events;
+use crate::scan::Scan;
 use crate::verbs::Shape;
-use crate::{events, scan};
 use calls::Call;
-use faults::{Fault, Scan};
+use faults::{Fault, Wrong};
+use image::Entry;
 
-// The numbers, and the scan behind them: they count only where nothing was wrong. Numbers that a line does not name are 0, and so is the code.
-#[derive(Clone, Copy)]
-pub struct Operands {
-    pub call: Call,
-    pub scan: Scan,
-}
-
-// A call with these numbers alone.
-fn plain(number: u8, value: u8, amount: u32) -> Call
-    ensures { result.kind ≤ 3 }
+// start, link, test, check: a number.
+fn number<'a>(scan: &mut Scan<'a>) -> Result<Call, Wrong<'a>>
+    ensures further { Further scan.old scan.new }
+    ensures kind { Follows result }
 {
-    Call {
-        code: 0,
-        kind: 0,
-        number: number,
-        value: value,
-        amount: amount,
-        events: 0,
-    }
-}
-
-// start, link, test, check, every: a number.
-fn number(line: &[u8], s: Scan) -> Operands
-    requires { Inside line.now 0 s }
-    ensures { Follows line.now result }
-{
-    let n = scan::number(line, s, 255);
-    Operands {
-        call: plain(n.value as u8, 0, 0),
-        scan: n,
-    }
+    Ok(Call {
+        number: scan.byte()?,
+        ..Call::default()
+    })
 }
 
 // signal: an event, and 'on' or 'off'.
-fn switch(line: &[u8], s: Scan) -> Operands
-    requires { Inside line.now 0 s }
-    ensures { Follows line.now result }
+fn switch<'a>(scan: &mut Scan<'a>) -> Result<Call, Wrong<'a>>
+    ensures further { Further scan.old scan.new }
+    ensures kind { Follows result }
 {
-    let event = scan::number(line, s, 255);
-    let on = scan::option(line, event, b"on");
-    if on.value == 1 {
-        return Operands {
-            call: plain(event.value as u8, 1, 0),
-            scan: on,
-        };
+    let number = scan.byte()?;
+    let on = scan.option(b"on");
+    if !on {
+        scan.expect(b"off", Fault::WantsSwitch)?;
     }
-    let off = scan::expect(line, on, b"off", Fault::WantsSwitch);
-    Operands {
-        call: plain(event.value as u8, 0, 0),
-        scan: off,
-    }
+    Ok(Call {
+        number,
+        value: u8::from(on),
+        ..Call::default()
+    })
 }
 
 // read, write: a device, and how many bytes.
-fn device(line: &[u8], s: Scan) -> Operands
-    requires { Inside line.now 0 s }
-    ensures { Follows line.now result }
+fn device<'a>(scan: &mut Scan<'a>) -> Result<Call, Wrong<'a>>
+    ensures further { Further scan.old scan.new }
+    ensures kind { Follows result }
 {
-    let named = scan::expect(line, s, b"device", Fault::WantsDevice);
-    let device = scan::number(line, named, 255);
-    let comma = scan::expect(line, device, b",", Fault::WantsComma);
-    let count = scan::number(line, comma, 4294967295);
-    let bytes = scan::expect(line, count, b"bytes", Fault::WantsBytes);
-    Operands {
-        call: plain(device.value as u8, 0, count.value as u32),
-        scan: bytes,
-    }
+    scan.expect(b"device", Fault::WantsDevice)?;
+    let number = scan.byte()?;
+    scan.expect(b",", Fault::WantsComma)?;
+    let amount = scan.amount()?;
+    scan.expect(b"bytes", Fault::WantsBytes)?;
+    Ok(Call {
+        number,
+        amount,
+        ..Call::default()
+    })
 }
 
 // A condition of kind 1, behind 'when': a count, 'of' and a list of events.
-fn when(line: &[u8], s: Scan, number: u8) -> Operands
-    requires { Inside line.now 0 s }
-    ensures { Follows line.now result }
+fn when<'a>(scan: &mut Scan<'a>) -> Result<Call, Wrong<'a>>
+    ensures further { Further scan.old scan.new }
+    ensures kind { Follows result }
 {
-    let count = scan::number(line, s, 255);
-    let of = scan::expect(line, count, b"of", Fault::WantsOf);
-    let awaited = events::list(line, of);
-    let behind = awaited.scan;
-    Operands {
-        call: Call {
-            code: 0,
-            kind: 1,
-            number: number,
-            value: count.value as u8,
-            amount: 0,
-            events: awaited.set,
-        },
-        scan: behind,
-    }
+    let value = scan.byte()?;
+    scan.expect(b"of", Fault::WantsOf)?;
+    Ok(Call {
+        kind: 1,
+        value,
+        events: events::list(scan)?,
+        ..Call::default()
+    })
 }
 
 // A condition of kind 2 or 3: a time or an interval.
-fn timed(line: &[u8], s: Scan, kind: u8, number: u8) -> Operands
-    requires { (kind ≤ 3) × Inside line.now 0 s }
-    ensures { Follows line.now result }
+fn timed<'a>(scan: &mut Scan<'a>, kind: u8) -> Result<Call, Wrong<'a>>
+    requires { kind ≤ 3 }
+    ensures further { Further scan.old scan.new }
+    ensures kind { Follows result }
 {
-    let amount = scan::number(line, s, 4294967295);
-    Operands {
-        call: Call {
-            code: 0,
-            kind: kind,
-            number: number,
-            value: 0,
-            amount: amount.value as u32,
-            events: 0,
-        },
-        scan: amount,
-    }
+    Ok(Call {
+        kind,
+        amount: scan.amount()?,
+        ..Call::default()
+    })
 }
 
 // schedule, wait: a condition.
-fn condition(line: &[u8], s: Scan, number: u8) -> Operands
-    requires { Inside line.now 0 s }
-    ensures { Follows line.now result }
+fn condition<'a>(scan: &mut Scan<'a>) -> Result<Call, Wrong<'a>>
+    ensures further { Further scan.old scan.new }
+    ensures kind { Follows result }
 {
-    let count = scan::option(line, s, b"when");
-    if count.value == 1 {
-        return when(line, count, number);
+    if scan.option(b"when") {
+        return when(scan);
     }
-    let time = scan::option(line, count, b"at");
-    if time.value == 1 {
-        return timed(line, time, 2, number);
+    if scan.option(b"at") {
+        return timed(scan, 2);
     }
-    let interval = scan::expect(line, time, b"after", Fault::WantsCondition);
-    timed(line, interval, 3, number)
+    scan.expect(b"after", Fault::WantsCondition)?;
+    timed(scan, 3)
 }
 
 // schedule: a module, and a condition or the line's end.
-fn scheduled(line: &[u8], s: Scan) -> Operands
-    requires { Inside line.now 0 s }
-    ensures { Follows line.now result }
+fn scheduled<'a>(scan: &mut Scan<'a>) -> Result<Call, Wrong<'a>>
+    ensures further { Further scan.old scan.new }
+    ensures kind { Follows result }
 {
-    let n = scan::number(line, s, 255);
-    let w = phrases::next(line, n.at);
-    if w.from == w.to {
-        return Operands {
-            call: plain(n.value as u8, 0, 0),
-            scan: n,
-        };
-    }
-    condition(line, n, n.value as u8)
+    let number = scan.byte()?;
+    let rest = if scan.ended() {
+        Call::default()
+    } else {
+        condition(scan)?
+    };
+    Ok(Call { number, ..rest })
 }
 
-// events: a list.
-fn listed(line: &[u8], s: Scan) -> Operands
-    requires { Inside line.now 0 s }
-    ensures { Follows line.now result }
+// A call of no numbers, whose second word is this one.
+fn bare<'a>(scan: &mut Scan<'a>, name: &[u8], fault: Fault) -> Result<Call, Wrong<'a>>
+    ensures further { Further scan.old scan.new }
+    ensures kind { Follows result }
 {
-    let all = events::list(line, s);
-    let behind = all.scan;
-    Operands {
-        call: Call {
-            code: 0,
-            kind: 0,
-            number: 0,
-            value: 0,
-            amount: 0,
-            events: all.set,
-        },
-        scan: behind,
-    }
+    scan.expect(name, fault)?;
+    Ok(Call::default())
 }
 
-// The entry point of a module, 0 where none is given.
-fn point(line: &[u8], s: Scan) -> Scan
-    requires { Inside line.now 0 s }
-    ensures { Numbered line.now 0 4294967295 result }
-{
-    let named = scan::option(line, s, b"entry");
-    if named.value == 1 {
-        return scan::number(line, named, 4294967295);
-    }
-    named
-}
-
-// module: its level as the number, its units as the value, perhaps 'reentrant' as the kind, perhaps an entry point as the amount.
-fn module_line(line: &[u8], s: Scan) -> Operands
-    requires { Inside line.now 0 s }
-    ensures { Follows line.now result }
-{
-    let leveled = scan::expect(line, s, b"level", Fault::WantsLevel);
-    let level = scan::number(line, leveled, 255);
-    let united = scan::expect(line, level, b"units", Fault::WantsUnits);
-    let units = scan::number(line, united, 255);
-    let flags = scan::option(line, units, b"reentrant");
-    let entry = point(line, flags);
-    Operands {
-        call: Call {
-            code: 0,
-            kind: flags.value as u8,
-            number: level.value as u8,
-            value: units.value as u8,
-            amount: entry.value as u32,
-            events: 0,
-        },
-        scan: entry,
-    }
-}
-
-// What follows a first word of this shape.
-pub fn read(line: &[u8], s: Scan, shape: Shape) -> Operands
-    requires { Inside line.now 0 s }
-    ensures { Follows line.now result }
+// What follows the first word of a call of this shape. The match stays: its cases are an enum's, and a closure for each row would have to be stored
+// in the table and handed out, which the toolchain refuses.
+pub fn read<'a>(scan: &mut Scan<'a>, shape: Shape) -> Result<Call, Wrong<'a>>
+    ensures further { Further scan.old scan.new }
+    ensures kind { Follows result }
 {
     match shape {
-        Shape::Every => number(line, s),
-        Shape::Events => listed(line, s),
-        Shape::Module => module_line(line, s),
-        Shape::Number => number(line, s),
-        Shape::Scheduled => scheduled(line, s),
-        Shape::Condition => condition(line, s, 0),
-        Shape::Switch => switch(line, s),
-        Shape::Device => device(line, s),
-        Shape::Check => Operands {
-            call: plain(0, 0, 0),
-            scan: scan::expect(line, s, b"check", Fault::WantsCheck),
-        },
-        Shape::Done => Operands {
-            call: plain(0, 0, 0),
-            scan: scan::expect(line, s, b"done", Fault::WantsDone),
-        },
-        _ => Operands {
-            call: plain(0, 0, 0),
-            scan: s,
-        },
+        Shape::Bare => Ok(Call::default()),
+        Shape::Number => number(scan),
+        Shape::Scheduled => scheduled(scan),
+        Shape::Condition => condition(scan),
+        Shape::Switch => switch(scan),
+        Shape::Device => device(scan),
+        Shape::Check => bare(scan, b"check", Fault::WantsCheck),
+        Shape::Done => bare(scan, b"done", Fault::WantsDone),
     }
 }
 
 // Any call, by its six numbers: code, kind, number, value, amount, set.
-pub fn any(line: &[u8], s: Scan) -> Operands
-    requires { Inside line.now 0 s }
-    ensures { Inside line.now 0 result.scan }
+pub fn any<'a>(scan: &mut Scan<'a>) -> Result<Call, Wrong<'a>>
+    ensures { Further scan.old scan.new }
 {
-    let code = scan::number(line, s, 255);
-    let kind = scan::number(line, code, 255);
-    let number = scan::number(line, kind, 255);
-    let value = scan::number(line, number, 255);
-    let amount = scan::number(line, value, 4294967295);
-    let set = scan::number(line, amount, 18446744073709551615);
-    Operands {
-        call: Call {
-            code: code.value as u8,
-            kind: kind.value as u8,
-            number: number.value as u8,
-            value: value.value as u8,
-            amount: amount.value as u32,
-            events: set.value,
-        },
-        scan: set,
-    }
+    Ok(Call {
+        code: scan.byte()?,
+        kind: scan.byte()?,
+        number: scan.byte()?,
+        value: scan.byte()?,
+        amount: scan.amount()?,
+        events: scan.number(u64::MAX)?,
+    })
+}
+
+// module: its level and units, perhaps 'reentrant' as its flag, perhaps an entry point.
+pub fn module<'a>(scan: &mut Scan<'a>) -> Result<Entry, Wrong<'a>>
+    ensures { Further scan.old scan.new }
+{
+    scan.expect(b"level", Fault::WantsLevel)?;
+    let level = scan.byte()?;
+    scan.expect(b"units", Fault::WantsUnits)?;
+    let units = scan.byte()?;
+    let flags = u16::from(scan.option(b"reentrant"));
+    let point = if scan.option(b"entry") {
+        scan.amount()?
+    } else {
+        0
+    };
+    Ok(Entry {
+        level,
+        units,
+        flags,
+        point,
+    })
 }

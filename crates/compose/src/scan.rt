@@ -1,134 +1,119 @@
-// Reading a line word by word. A scan goes on until something is wrong; from there on it stays as it is, so that a line is read from its front to its end
-// with one question at the end: was anything wrong?
-ghost use Rattle.std.specs.Prelude.{◌≡◌};
-ghost use Rattle.faults.specs.Scans.{Inside};
-ghost use Rattle.compose.specs.Words.{Numbered};
+// Reading a line word by word: the first word that is not what should stand there is what is wrong with the line.
+ghost use Rattle.std.specs.Prelude.{◌≤◌, length};
 
-use faults::{Fault, Scan};
-use text::decimals::Number;
+use faults::{Fault, Wrong};
+use text::decimals::NumberError;
 use text::word::Word;
 
-// The scan past a line's first word, with what is wrong with it, if anything.
-pub fn begun(w: Word, fault: Fault) -> Scan
-    ensures { (result.at ≡ w.to) × (result.from ≡ w.from) × (result.to ≡ w.to) × (result.value ≡ 0) }
-{
-    Scan {
-        at: w.to,
-        fault: fault,
-        from: w.from,
-        to: w.to,
-        value: 0,
-    }
+// A line, and where its next word is looked for.
+#[derive(Clone, Copy)]
+pub struct Scan<'a> {
+    pub line: &'a [u8],
+    pub at: usize,
+    ghost inside: { at ≤ length line.now },
 }
 
-// The scan past a word in which nothing is wrong.
-pub fn past(w: Word, value: u64) -> Scan
-    ensures { (result.at ≡ w.to) × (result.from ≡ w.from) × (result.to ≡ w.to) × (result.value ≡ value) }
-{
-    Scan {
-        at: w.to,
-        fault: Fault::Fine,
-        from: w.from,
-        to: w.to,
-        value: value,
-    }
-}
+impl<'a> Scan<'a> {
+    ghost use Rattle.std.specs.Prelude.{◌≡◌, ◌+◌, ◌↔◌, IsTrue, IsOk, IfOk};
+    ghost use Rattle.phrases.specs.Words.{Next};
+    ghost use Rattle.compose.specs.Words.{Further, Ended};
 
-// The scan that stops at a word.
-pub fn wrong(s: Scan, fault: Fault, w: Word) -> Scan
-    ensures { (result.at ≡ s.at) × (result.from ≡ w.from) × (result.to ≡ w.to) × (result.value ≡ 0) }
-{
-    Scan {
-        at: s.at,
-        fault: fault,
-        from: w.from,
-        to: w.to,
-        value: 0,
+    pub fn new(line: &'a [u8]) -> Scan<'a>
+        ensures line { result.line.now ≡ line.now }
+        ensures at { result.at ≡ 0 }
+    {
+        Scan { line, at: 0 }
     }
-}
 
-// The scan that stops at the word it is at.
-pub fn halted(s: Scan, fault: Fault) -> Scan
-    ensures { (result.at ≡ s.at) × (result.from ≡ s.from) × (result.to ≡ s.to) × (result.value ≡ 0) }
-{
-    Scan {
-        at: s.at,
-        fault: fault,
-        from: s.from,
-        to: s.to,
-        value: 0,
+    fn next(&self) -> Word
+        ensures { Next self.now.line.now self.now.at result }
+    {
+        phrases::next(self.line, self.at)
     }
-}
 
-// Whether nothing is wrong.
-pub fn fine(s: Scan) -> bool {
-    let fault = s.fault;
-    match fault {
-        Fault::Fine => true,
-        _ => false,
+    // The next word is wrong.
+    pub fn wrong(&self, fault: Fault) -> Wrong<'a>
+        ensures line { result.line.now ≡ self.now.line.now }
+        ensures fault { result.fault ≡ fault }
+        ensures word { Next self.now.line.now self.now.at result.word }
+    {
+        Wrong {
+            fault,
+            line: self.line,
+            word: self.next(),
+        }
     }
-}
 
-// The next word has to be this one; where it is not, that is the fault.
-pub fn expect(line: &[u8], s: Scan, name: &[u8], fault: Fault) -> Scan
-    requires { Inside line.now 0 s }
-    ensures { Inside line.now s.at result }
-{
-    if !fine(s) {
-        return s;
+    // Whether no word is left.
+    pub fn ended(&self) -> bool
+        ensures { IsTrue result ↔ Ended self.now }
+    {
+        let word = self.next();
+        word.from == word.to
     }
-    let w = phrases::next(line, s.at);
-    if phrases::named(line, w, name) {
-        return past(w, 0);
-    }
-    wrong(s, fault, w)
-}
 
-// The next word may be this one: it is passed, with 1, or left, with 0.
-pub fn option(line: &[u8], mut s: Scan, name: &[u8]) -> Scan
-    requires { Inside line.now 0 s }
-    ensures { Numbered line.now s.at 1 result }
-{
-    s.value = 0;
-    if !fine(s) {
-        return s;
+    // The next word may be this one: then it is passed.
+    pub fn option(&mut self, name: &[u8]) -> bool
+        ensures further { Further self.old self.new }
+        ensures passed { IsTrue result → self.old.at + length name.now ≤ self.new.at }
+    {
+        let word = self.next();
+        let here = phrases::named(self.line, word, name);
+        if here {
+            self.at = word.to;
+        }
+        here
     }
-    let w = phrases::next(line, s.at);
-    if phrases::named(line, w, name) {
-        return past(w, 1);
-    }
-    s
-}
 
-// The next word has to be a number, at most `most`.
-pub fn number(line: &[u8], mut s: Scan, most: u64) -> Scan
-    requires { Inside line.now 0 s }
-    ensures { Numbered line.now s.at most result }
-{
-    s.value = 0;
-    if !fine(s) {
-        return s;
+    // The next word has to be this one; where it is not, that is the fault.
+    pub fn expect(&mut self, name: &[u8], fault: Fault) -> Result<(), Wrong<'a>>
+        ensures { Further self.old self.new }
+    {
+        if self.option(name) {
+            Ok(())
+        } else {
+            Err(self.wrong(fault))
+        }
     }
-    let w = phrases::next(line, s.at);
-    let found = phrases::number(line, w, most);
-    match found {
-        Number::Value(value) => past(w, value),
-        Number::Large => wrong(s, Fault::Large(most), w),
-        Number::Other => wrong(s, Fault::WantsNumber, w),
-    }
-}
 
-// The line has to end here.
-pub fn end(line: &[u8], s: Scan) -> Scan
-    requires { Inside line.now 0 s }
-    ensures { Inside line.now s.at result }
-{
-    if !fine(s) {
-        return s;
+    // The next word has to be a number, at most `most`.
+    pub fn number(&mut self, most: u64) -> Result<u64, Wrong<'a>>
+        ensures further { Further self.old self.new }
+        ensures low { IfOk result (λ n. n ≤ most) }
+    {
+        let word = self.next();
+        match phrases::number(self.line, word, most) {
+            Ok(value) => {
+                self.at = word.to;
+                Ok(value)
+            }
+            Err(NumberError::TooLarge) => Err(self.wrong(Fault::Large(most))),
+            Err(NumberError::NotANumber) => Err(self.wrong(Fault::WantsNumber)),
+        }
     }
-    let w = phrases::next(line, s.at);
-    if w.from == w.to {
-        return s;
+
+    // A number of one byte.
+    pub fn byte(&mut self) -> Result<u8, Wrong<'a>>
+        ensures { Further self.old self.new }
+    {
+        Ok(self.number(255)? as u8)
     }
-    wrong(s, Fault::Surplus, w)
+
+    // A number of four bytes.
+    pub fn amount(&mut self) -> Result<u32, Wrong<'a>>
+        ensures { Further self.old self.new }
+    {
+        Ok(self.number(4294967295)? as u32)
+    }
+
+    // The line has to end here.
+    pub fn end(&self) -> Result<(), Wrong<'a>>
+        ensures { IsOk result ↔ Ended self.now }
+    {
+        if self.ended() {
+            Ok(())
+        } else {
+            Err(self.wrong(Fault::Surplus))
+        }
+    }
 }

@@ -1,297 +1,204 @@
 // A session as it is read: the line so far, the image so far, and what each line does.
-ghost use Rattle.std.specs.Prelude.{◌≤◌, length};
-ghost use Rattle.phrases.specs.Words.{Within};
-ghost use Rattle.faults.specs.Scans.{Inside};
-ghost use Rattle.compose.specs.Session.{Held};
-
-use crate::verbs::{Shape, Verb};
-use crate::{made, operands, scan, verbs};
-use answers::Outcome;
+use crate::scan::Scan;
+use crate::verbs::Verb;
+use crate::{events, made, operands, verbs};
+use arrayvec::ArrayVec;
 use calls::Call;
-use faults::{Fault, Scan};
-use image::Directory;
+use faults::{Fault, Wrong};
+use image::{Directory, Entry};
 use memchr::memchr;
+use saying::Trouble;
+use std::mem;
 use text::word::Word;
 
-// The line so far and its number; the image so far, and whether `every` and `events` were given; whether calls have begun, and how many were written;
-// whether to go on.
-#[derive(Clone, Copy)]
+// The line so far and its number; the image so far, and whether `every` and `events` were given (0 may be given, and is no second time either: so the
+// directory cannot tell); whether calls have begun, and how many were written. The two flags stay beside the directory: an Option for each would hold what the
+// directory has to hold too, or leave it half made for `made` and `image::write`, which want a whole one, and be no plainer.
+#[derive(Drop)]
 pub struct Session {
-    pub line: [u8; 200],
-    pub length: usize,
+    pub line: ArrayVec<u8, 200>,
     pub number: u64,
     pub directory: Directory,
     pub timed: bool,
     pub listed: bool,
     pub calling: bool,
     pub calls: u64,
-    pub going: bool,
 }
 
-pub fn start() -> Session
-    ensures { Held result }
-{
-    let none = image::entries::none();
-    Session {
-        line: [0u8; 200],
-        length: 0,
-        number: 1,
-        directory: none,
-        timed: false,
-        listed: false,
-        calling: false,
-        calls: 0,
-        going: true,
+// The session is over, and what there was to say of it was said.
+#[derive(Clone, Copy, Debug, PartialEq, Eq)]
+pub struct Over;
+
+// What a line says: something of the image, or a call.
+#[derive(Clone, Copy, Debug, PartialEq, Eq)]
+enum Says {
+    Every(u8),
+    Events(u64),
+    Module(Entry),
+    Call(Call),
+}
+
+// Writes bytes, all of them; where that fails, it is said.
+fn written(rt: HostRuntime, s: &Session, bytes: &[u8]) -> Result<(), Over> {
+    if pipes::give(&rt, &mut rt.stdout(), bytes).is_err() {
+        Trouble::Unwritten.say(rt, Some(s.calls));
+        return Err(Over);
     }
-}
-
-pub fn stopped(mut s: Session) -> Session
-    requires { Held s }
-    ensures { Held result }
-{
-    s.going = false;
-    s
-}
-
-// Writes bytes, all of them; where that fails, it is said and the session stops.
-fn written(rt: HostRuntime, s: Session, bytes: &[u8]) -> Session
-    requires { Held s }
-    ensures { Held result }
-{
-    if pipes::give(&rt, &mut rt.stdout(), bytes) {
-        return s;
-    }
-    saying::unwritten_after(rt, s.calls);
-    stopped(s)
+    Ok(())
 }
 
 // A line in which something is wrong.
-fn refused(rt: HostRuntime, s: Session, line: &[u8], wrong: Scan) -> Session
-    requires { Held s × Inside line.now 0 wrong }
-    ensures { Held result }
-{
-    faults::refused(rt, s.number, line, wrong);
-    stopped(s)
+fn refused(rt: HostRuntime, s: &Session, wrong: Wrong<'_>) -> Result<(), Over> {
+    faults::refused(rt, s.number, wrong);
+    Err(Over)
 }
 
-// The image ends: it is written, or refused.
-fn closed(rt: HostRuntime, mut s: Session, at_end: bool) -> Session
-    requires { Held s }
-    ensures { Held result }
-{
+// The image ends, unless it has: it is written, or refused.
+fn closed(rt: HostRuntime, s: &mut Session, at_end: bool) -> Result<(), Over> {
     if s.calling {
-        return s;
+        return Ok(());
     }
     s.calling = true;
-    let directory = s.directory;
-    let mut bytes = [0u8; 512];
-    let outcome = image::write(directory, &mut bytes);
-    let Outcome::Refused(refusal) = outcome else {
-        return written(rt, s, &bytes);
-    };
-    if at_end {
-        faults::refused_at_end(rt, refusal);
-    } else {
-        faults::refused_image(rt, s.number, refusal);
+    let mut bytes = [0; 512];
+    if let Err(refusal) = image::write(s.directory, &mut bytes) {
+        if at_end {
+            faults::refused_at_end(rt, u8::from(refusal));
+        } else {
+            faults::refused_image(rt, s.number, u8::from(refusal));
+        }
+        return Err(Over);
     }
-    stopped(s)
+    written(rt, s, &bytes)
 }
 
 // A call, done: the first one ends the image.
-fn called(rt: HostRuntime, s: Session, call: Call) -> Session
-    requires { Held s }
-    ensures { Held result }
-{
-    let after = closed(rt, s, false);
-    if !after.going {
-        return after;
-    }
-    let mut done = written(rt, after, &calls::write(call));
-    done.calls = done.calls.wrapping_add(1);
-    done
+fn called(rt: HostRuntime, s: &mut Session, call: Call) -> Result<(), Over> {
+    closed(rt, s, false)?;
+    written(rt, s, &<[u8; 16]>::from(call))?;
+    s.calls = s.calls.wrapping_add(1);
+    Ok(())
 }
 
-// A line of the image, done.
-fn described(mut s: Session, call: Call, shape: Shape) -> Session
-    requires { Held s }
-    ensures { Held result }
-{
-    let before = s.directory;
-    match shape {
-        Shape::Every => {
+// What a line says, done.
+fn done(rt: HostRuntime, s: &mut Session, says: Says) -> Result<(), Over> {
+    match says {
+        Says::Every(n) => {
             s.timed = true;
-            s.directory = made::every(before, call);
+            s.directory = made::every(s.directory, n);
         }
-        Shape::Events => {
+        Says::Events(set) => {
             s.listed = true;
-            s.directory = made::events(before, call);
+            s.directory = made::events(s.directory, set);
         }
-        _ => {
-            s.directory = made::with_module(before, call);
-        }
+        Says::Module(entry) => s.directory = made::with_module(s.directory, entry),
+        Says::Call(call) => return called(rt, s, call),
     }
-    s
+    Ok(())
 }
 
-// What is wrong with a line of the image, before the words behind its first are read.
-fn out_of_place(s: Session, shape: Shape) -> Fault {
-    if s.calling {
-        return Fault::Late;
-    }
-    let full = 32 <= s.directory.modules;
-    match shape {
-        Shape::Every => { if s.timed { Fault::Twice } else { Fault::Fine } }
-        Shape::Events => { if s.listed { Fault::Twice } else { Fault::Fine } }
-        _ => { if full { Fault::Full } else { Fault::Fine } }
+// What is wrong with the first word of a line, before the words behind it are read.
+fn out_of_place(s: &Session, verb: Verb) -> Option<Fault> {
+    match verb {
+        Verb::Any | Verb::Call(_, _) => None,
+        _ if s.calling => Some(Fault::Late),
+        Verb::Every => s.timed.then_some(Fault::Twice),
+        Verb::Events => s.listed.then_some(Fault::Twice),
+        Verb::Module => (32 <= s.directory.modules).then_some(Fault::Full),
     }
 }
 
-fn image_line(rt: HostRuntime, s: Session, line: &[u8], w: Word, shape: Shape) -> Session
-    requires { Held s × Within line.now 0 w }
-    ensures { Held result }
-{
-    let first = scan::begun(w, out_of_place(s, shape));
-    let o = operands::read(line, first, shape);
-    let behind = o.scan;
-    let end = scan::end(line, behind);
-    if scan::fine(end) {
-        let call = o.call;
-        return described(s, call, shape);
-    }
-    refused(rt, s, line, end)
+// What stands behind a first word. The match stays: its cases are an enum's, and a closure for each row would have to be stored in the table and handed out,
+// which the toolchain refuses.
+fn behind<'a>(scan: &mut Scan<'a>, verb: Verb) -> Result<Says, Wrong<'a>> {
+    Ok(match verb {
+        Verb::Every => Says::Every(scan.byte()?),
+        Verb::Events => Says::Events(events::list(scan)?),
+        Verb::Module => Says::Module(operands::module(scan)?),
+        Verb::Any => Says::Call(operands::any(scan)?),
+        Verb::Call(code, shape) => Says::Call(made::call(code, operands::read(scan, shape)?)),
+    })
 }
 
-fn call_line(rt: HostRuntime, s: Session, line: &[u8], w: Word, verb: Verb) -> Session
-    requires { Held s × Within line.now 0 w }
-    ensures { Held result }
-{
-    let shape = verb.shape;
-    let o = operands::read(line, scan::begun(w, Fault::Fine), shape);
-    let behind = o.scan;
-    let end = scan::end(line, behind);
-    if scan::fine(end) {
-        let call = o.call;
-        return called(rt, s, made::call(verb.code, call));
+// What a line says, without its comment: nothing where no word is in it.
+fn understood<'a>(s: &Session, line: &'a [u8]) -> Result<Option<Says>, Wrong<'a>> {
+    let mut scan = Scan::new(line);
+    let first = scan;
+    if scan.ended() {
+        return Ok(None);
     }
-    refused(rt, s, line, end)
+    let Some(verb) = verbs::find(&mut scan) else {
+        return Err(first.wrong(if s.calling {
+            Fault::NotCall
+        } else {
+            Fault::Unknown
+        }));
+    };
+    if let Some(fault) = out_of_place(s, verb) {
+        return Err(first.wrong(fault));
+    }
+    let says = behind(&mut scan, verb)?;
+    scan.end()?;
+    Ok(Some(says))
 }
 
-fn any_line(rt: HostRuntime, s: Session, line: &[u8], w: Word) -> Session
-    requires { Held s × Within line.now 0 w }
-    ensures { Held result }
-{
-    let o = operands::any(line, scan::begun(w, Fault::Fine));
-    let behind = o.scan;
-    let end = scan::end(line, behind);
-    if scan::fine(end) {
-        let call = o.call;
-        return called(rt, s, call);
+// One line: it is read up to its comment.
+fn line_read(rt: HostRuntime, s: &mut Session, bytes: &[u8]) -> Result<(), Over> {
+    let cut = memchr(b'#', bytes).unwrap_or(bytes.len());
+    match understood(s, &bytes[..cut]) {
+        Ok(Some(says)) => done(rt, s, says),
+        Ok(None) => Ok(()),
+        Err(wrong) => refused(rt, s, wrong),
     }
-    refused(rt, s, line, end)
-}
-
-// A line whose first word no row has.
-fn unknown(rt: HostRuntime, s: Session, line: &[u8], w: Word) -> Session
-    requires { Held s × Within line.now 0 w }
-    ensures { Held result }
-{
-    if s.calling {
-        return refused(rt, s, line, scan::begun(w, Fault::NotCall));
-    }
-    refused(rt, s, line, scan::begun(w, Fault::Unknown))
-}
-
-// One line, without its comment.
-fn line_read(rt: HostRuntime, s: Session, line: &[u8]) -> Session
-    requires { Held s }
-    ensures { Held result }
-{
-    let w = phrases::next(line, 0);
-    if w.from == w.to {
-        return s;
-    }
-    let verb = verbs::find(line, w);
-    let shape = verb.shape;
-    match shape {
-        Shape::Unknown => unknown(rt, s, line, w),
-        Shape::Call => any_line(rt, s, line, w),
-        Shape::Every | Shape::Events | Shape::Module => image_line(rt, s, line, w, shape),
-        _ => call_line(rt, s, line, w, verb),
-    }
-}
-
-// The first bytes of a line's buffer are a line: it is read up to its comment.
-fn line_cut(rt: HostRuntime, s: Session, bytes: &[u8], count: usize) -> Session
-    requires { Held s × (count ≤ length bytes.now) }
-    ensures { Held result }
-{
-    let cut = memchr(b'#', &bytes[..count]).unwrap_or(count);
-    line_read(rt, s, &bytes[..cut])
-}
-
-// The same, of a whole buffer.
-fn line_in(rt: HostRuntime, s: Session, buffer: &[u8; 200], count: usize) -> Session
-    requires { Held s × (count ≤ 200) }
-    ensures { Held result }
-{
-    line_cut(rt, s, buffer, count)
 }
 
 // The line so far has ended: it is read, and the next begins.
-fn line_ended(rt: HostRuntime, s: Session) -> Session
-    requires { Held s }
-    ensures { Held result }
-{
-    let buffer = s.line;
-    let mut after = line_in(rt, s, &buffer, s.length);
-    after.length = 0;
-    after.number = after.number.wrapping_add(1);
-    after
+fn line_ended(rt: HostRuntime, s: &mut Session) -> Result<(), Over> {
+    let line = mem::take(&mut s.line);
+    line_read(rt, s, &line)?;
+    s.number = s.number.wrapping_add(1);
+    Ok(())
 }
 
-// One byte of the text.
-fn taken(rt: HostRuntime, mut s: Session, byte: u8) -> Session
-    requires { Held s }
-    ensures { Held result }
-{
-    if byte == b'\n' {
-        return line_ended(rt, s);
-    }
-    let at = s.length;
-    if 200 <= at {
-        let none = Word { from: 0, to: 0 };
-        return refused(rt, s, b"", scan::begun(none, Fault::Long));
-    }
-    s.line[at] = byte;
-    s.length = at + 1;
-    s
+// A line of more bytes than it may have.
+fn too_long(rt: HostRuntime, s: &Session) -> Result<(), Over> {
+    let wrong = Wrong {
+        fault: Fault::Long,
+        line: b"",
+        word: Word { from: 0, to: 0 },
+    };
+    refused(rt, s, wrong)
 }
 
-// Bytes of the text, as many as came, until one line is refused.
-pub fn feed(rt: HostRuntime, s: Session, bytes: &[u8]) -> Session
-    requires { Held s }
-    ensures { Held result }
-{
-    let mut after = s;
-    let mut i: usize = 0;
-    while i < bytes.len() {
-        if !after.going {
-            return after;
+impl Session {
+    pub fn new() -> Session {
+        Session {
+            line: ArrayVec::new(),
+            number: 1,
+            directory: Directory::default(),
+            timed: false,
+            listed: false,
+            calling: false,
+            calls: 0,
         }
-        after = taken(rt, after, bytes[i]);
-        i += 1;
     }
-    after
-}
 
-// The text has ended: its last line may have no line end, and an image without calls ends here.
-pub fn finish(rt: HostRuntime, s: Session) -> Session
-    requires { Held s }
-    ensures { Held result }
-{
-    let last = line_ended(rt, s);
-    if !last.going {
-        return last;
+    // Bytes of the text, as many as came, until one line is refused.
+    pub fn feed(&mut self, rt: HostRuntime, bytes: &[u8]) -> Result<(), Over> {
+        for byte in bytes {
+            if *byte == b'\n' {
+                line_ended(rt, self)?;
+            } else if self.line.is_full() {
+                return too_long(rt, self);
+            } else {
+                self.line.push(*byte);
+            }
+        }
+        Ok(())
     }
-    stopped(closed(rt, last, true))
+
+    // The text has ended: its last line may have no line end, and an image without calls ends here.
+    pub fn finish(&mut self, rt: HostRuntime) -> Result<(), Over> {
+        line_ended(rt, self)?;
+        closed(rt, self, true)
+    }
 }

@@ -1,21 +1,13 @@
 // The lines of a session, by their first words: one table.
-ghost use Rattle.std.specs.Prelude.{◌≡◌, ◌<◌, true};
-ghost use Rattle.text.specs.Words.{first_word};
-ghost use Rattle.compose.specs.Calls.{code_or_none};
-ghost use Rattle.phrases.specs.Words.{Within, bytes_of};
+ghost use Rattle.std.specs.Prelude.{◌≡◌, true, IfSome};
+ghost use Rattle.compose.specs.Calls.{verb_known};
 
+use crate::scan::Scan;
 use calls::codes;
-use text::word;
-use text::word::Word;
 
-// What follows a first word: `operands` reads it.
-#[derive(Clone, Copy)]
+// What follows the first word of a call: `operands` reads it.
+#[derive(Clone, Copy, Debug, PartialEq, Eq)]
 pub enum Shape {
-    Unknown,
-    Every,
-    Events,
-    Module,
-    Call,
     Bare,
     Number,
     Scheduled,
@@ -26,78 +18,51 @@ pub enum Shape {
     Done,
 }
 
-// The code of a line's call, 0 for none, and what follows its first word.
-#[derive(Clone, Copy)]
-pub struct Verb {
-    pub code: u8,
-    pub shape: Shape,
+// What a first word stands for: a line of the image, any call by its numbers, or the call of a code.
+#[derive(Clone, Copy, Debug, PartialEq, Eq)]
+pub enum Verb {
+    Every,
+    Events,
+    Module,
+    Any,
+    Call(u8, Shape),
 }
 
-// A row: the first word, filled up with blanks; the code; what follows.
+// A row: the first word, and what it stands for.
 #[derive(Clone, Copy)]
-struct Row([u8; 8], u8, Shape);
+struct Row(&'static [u8], Verb);
 
 // A new line of a session is a row, here and in docs/WORDS.md.
 const ROWS: [Row; 19] = [
-    Row(*b"every   ", 0, Shape::Every),
-    Row(*b"events  ", 0, Shape::Events),
-    Row(*b"module  ", 0, Shape::Module),
-    Row(*b"call    ", 0, Shape::Call),
-    Row(*b"freemain", codes::FREEMAIN, Shape::Bare),
-    Row(*b"link    ", codes::LINK, Shape::Number),
-    Row(*b"end     ", codes::END, Shape::Bare),
-    Row(*b"schedule", codes::SCHEDULE, Shape::Scheduled),
-    Row(*b"wait    ", codes::WAIT, Shape::Condition),
-    Row(*b"signal  ", codes::SIGNAL, Shape::Switch),
-    Row(*b"test    ", codes::TEST_EVENT, Shape::Number),
-    Row(*b"dispatch", codes::DISPATCH_CHECK, Shape::Check),
-    Row(*b"read    ", codes::READ, Shape::Device),
-    Row(*b"write   ", codes::WRITE, Shape::Device),
-    Row(*b"check   ", codes::CHECK, Shape::Number),
-    Row(*b"timer   ", codes::TIMER, Shape::Bare),
-    Row(*b"io      ", codes::IO_DONE, Shape::Done),
-    Row(*b"program ", codes::PROGRAM_CHECK, Shape::Check),
-    Row(*b"start   ", codes::OPERATOR_START, Shape::Number),
+    Row(b"every", Verb::Every),
+    Row(b"events", Verb::Events),
+    Row(b"module", Verb::Module),
+    Row(b"call", Verb::Any),
+    Row(b"freemain", Verb::Call(codes::FREEMAIN, Shape::Bare)),
+    Row(b"link", Verb::Call(codes::LINK, Shape::Number)),
+    Row(b"end", Verb::Call(codes::END, Shape::Bare)),
+    Row(b"schedule", Verb::Call(codes::SCHEDULE, Shape::Scheduled)),
+    Row(b"wait", Verb::Call(codes::WAIT, Shape::Condition)),
+    Row(b"signal", Verb::Call(codes::SIGNAL, Shape::Switch)),
+    Row(b"test", Verb::Call(codes::TEST_EVENT, Shape::Number)),
+    Row(b"dispatch", Verb::Call(codes::DISPATCH_CHECK, Shape::Check)),
+    Row(b"read", Verb::Call(codes::READ, Shape::Device)),
+    Row(b"write", Verb::Call(codes::WRITE, Shape::Device)),
+    Row(b"check", Verb::Call(codes::CHECK, Shape::Number)),
+    Row(b"timer", Verb::Call(codes::TIMER, Shape::Bare)),
+    Row(b"io", Verb::Call(codes::IO_DONE, Shape::Done)),
+    Row(b"program", Verb::Call(codes::PROGRAM_CHECK, Shape::Check)),
+    Row(b"start", Verb::Call(codes::OPERATOR_START, Shape::Number)),
 ];
 
-fn at(i: usize) -> Row
-    requires { i < 19 }
-    ensures { code_or_none result.1 ≡ true }
+// What the next word stands for, which is then passed; none where no row has it.
+pub fn find(scan: &mut Scan<'_>) -> Option<Verb>
+    ensures { IfSome result (λ v. verb_known v ≡ true) }
 {
-    ROWS[i]
-}
-
-// Whether a row's word is this one.
-fn is(line: &[u8], w: Word, name: [u8; 8]) -> bool
-    requires { Within line.now 0 w }
-    ensures { (result ≡ true → bytes_of line.now w ≡ bytes_of name (first_word name)) × (bytes_of line.now w ≡ bytes_of name (first_word name) → result ≡ true) }
-{
-    let place = word::first(&name);
-    let from = place.from;
-    let to = place.to;
-    phrases::named(line, w, &name[from..to])
-}
-
-// The row of a line's first word; of no shape where none has it.
-pub fn find(line: &[u8], w: Word) -> Verb
-    requires { Within line.now 0 w }
-    ensures { code_or_none result.code ≡ true }
-{
-    let mut i: usize = 0;
-    while i < 19 {
-        let row = at(i);
-        let name = row.0;
-        if is(line, w, name) {
-            let shape = row.2;
-            return Verb {
-                code: row.1,
-                shape: shape,
-            };
+    for row in &ROWS {
+        if scan.option(row.0) {
+            return Some(row.1);
         }
-        i += 1;
     }
-    Verb {
-        code: 0,
-        shape: Shape::Unknown,
-    }
+    None
 }

@@ -11,9 +11,8 @@ use lib.ListN.{replicate}
 use Rattle.threads.specs.Threads.{after, before, list_of, tab, row, threaded, BLOCKS}
 use Rattle.words.specs.Words.{◌among◌}
 use Rattle.words.specs.Rows.{first_of}
-use Rattle.answers.specs.declared.Outcome.TheVariants.{Refused, Accepted}
 use Rattle.image.specs.declared.Directory.{Directory}
-use Rattle.answers.specs.Answer.{refusal_of, result_of}
+use Rattle.answers.specs.Answer.{Refused, Accepted, refusal_of, result_of}
 use Rattle.image.specs.Directory.{no_directory}
 use Rattle.image.specs.Load.{directory_of, load_rows, refused_load, load_of}
 use Rattle.image.specs.Write.{image_of, write_rows, write_of}

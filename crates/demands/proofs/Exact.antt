@@ -2,7 +2,7 @@
 -- image written back gives the same 512 bytes, and a directory written and loaded comes back equal."
 --
 -- That the code does exactly that is said by its contracts, which are proved of it, have no `requires` and leave no second answer (proofs/Unique.antt of those crates):
---   `executive::load`     of any bytes, the tables and the answer are those of `tables_of` and `load_of`; `executive::load_lowest` for the old program
+--   `executive::load`     of any bytes, the tables and the answer are those of `tables_of` and `load_of`, by either rule: the lowest start is the old program's
 --   `executive::step`     of any tables and any bytes, the tables and the answer are those of `step_of`
 --   `executive::khilzurgee_advance`  the tables that are lent are left as those of `step_of`, and the three numbers are its line
 --   `executive::line`     the three numbers are `line_of`
@@ -15,9 +15,8 @@ use Prim.Native.Nat.{ℕ}
 use lib.ListN.{length}
 use lib.Dec.{eqb}
 use Rattle.words.specs.Words.{if◌then◌else◌}
-use Rattle.answers.specs.declared.Outcome.TheVariants.{Refused, Accepted}
 use Rattle.image.specs.declared.Directory.{Directory}
-use Rattle.answers.specs.Answer.{refusal_of}
+use Rattle.answers.specs.Answer.{Refused, Accepted, refusal_of}
 use Rattle.image.specs.Fits.{Bytes, Fits}
 use Rattle.image.specs.Load.{directory_of, load_of}
 use Rattle.image.specs.Write.{write_of}

@@ -7,8 +7,7 @@ use mathlib.Core.List.{List, []}
 use Prim.Native.Nat.{ℕ, ◌≤◌}
 use native.Mathlib.Omega.{arith}
 use lib.Dec.{ltb}
-use Rattle.answers.specs.declared.Outcome.TheVariants.{Accepted}
-use Rattle.answers.specs.Answer.{refusal_of}
+use Rattle.answers.specs.Answer.{Accepted, refusal_of}
 use Rattle.image.specs.Directory.{entry_at}
 use Rattle.image.specs.Load.{load_of}
 use Rattle.pools.specs.Pools.{long_enough, LowestStart, SmallestHole, start_of}

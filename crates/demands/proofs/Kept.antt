@@ -11,7 +11,7 @@ use lib.Dec.{eqb}
 use Rattle.threads.specs.Threads.{lst, count, counts, Sound, BLOCKS, QUEUES}
 use Rattle.threads.proofs.Read.{last_of}
 use Rattle.words.specs.Words.{if◌then◌else◌, one_to, ◌among◌, how_many, has, size}
-use Rattle.answers.specs.declared.Outcome.TheVariants.{Refused}
+use Rattle.answers.specs.Answer.{Refused}
 use Rattle.tables.specs.declared.Tables.{Tables}
 use Rattle.tables.specs.Blocks.{Free, Running, Ending, Queued, OnChannel, Done, task_blocks, request_blocks}
 use Rattle.tables.specs.State.{State, event_queue, core_queue, channel_queue, node, task_at, request_at, pool_at, queue, level_of, units_of, read}

@@ -1,69 +1,59 @@
-// What a directory holds, line by line. Each answer is false where a line could not be written.
-ghost use Rattle.std.specs.Prelude.{◌≤◌};
+// What a directory holds, line by line.
+ghost use Rattle.std.specs.Prelude.{◌≤◌, length};
 
 use image::{Directory, Entry};
-use lines::{Line, field, members, text};
+use lines::Line;
+use std::io;
 
-pub fn directory(rt: HostRuntime, d: Directory) -> bool {
+pub fn directory(rt: HostRuntime, d: Directory) -> io::Result<()> {
     let one = saying::line(
         rt,
-        field(lines::empty(), b"Modules (M): ", d.modules as u64),
+        Line::new().field(b"Modules (M): ", u64::from(d.modules)),
     );
     let two = saying::line(
         rt,
-        field(
-            lines::empty(),
+        Line::new().field(
             b"Cycles between looks at the time queue (N): ",
-            d.every as u64,
+            u64::from(d.every),
         ),
     );
     let three = saying::line(rt, events(d.defined));
-    one & two & three & modules(rt, d)
+    one.and(two).and(three).and(modules(rt, d))
 }
 
 fn events(defined: u64) -> Line
-    ensures { result.used ≤ 300 }
+    ensures { length result ≤ 300 }
 {
-    let name = text(lines::empty(), b"Defined events:");
+    let name = Line::new().text(b"Defined events:");
     if defined == 0 {
-        return text(name, b" none");
+        name.text(b" none")
+    } else {
+        name.members(defined)
     }
-    members(name, defined)
 }
 
 // The used entries, a line for each module.
-fn modules(rt: HostRuntime, d: Directory) -> bool {
-    let used = d.modules as usize;
-    let mut written = true;
-    let mut m: usize = 0;
-    while m < 32 {
-        if m < used {
-            written = saying::line(rt, entry(m, d.entries[m])) & written;
-        }
-        m += 1;
+fn modules(rt: HostRuntime, d: Directory) -> io::Result<()> {
+    let mut written = Ok(());
+    for m in 0..d.entries.len().min(d.modules as usize) {
+        written = written.and(saying::line(rt, entry(m, d.entries[m])));
     }
     written
 }
 
 fn entry(m: usize, e: Entry) -> Line
     requires { m ≤ 31 }
-    ensures { result.used ≤ 300 }
+    ensures { length result ≤ 200 }
 {
-    let level = field(
-        field(lines::empty(), b"Module ", m as u64),
-        b": level ",
-        e.level as u64,
-    );
-    let core = field(level, b", core units ", e.units as u64);
-    if e.flags == 1 {
-        return point(text(core, b", reentrant"), e);
-    }
-    point(text(core, b", not reentrant"), e)
-}
-
-fn point(l: Line, e: Entry) -> Line
-    requires { l.used ≤ 200 }
-    ensures { result.used ≤ 300 }
-{
-    field(l, b", entry point ", e.point as u64)
+    let reentrant: &[u8] = if e.flags == 1 {
+        b", reentrant"
+    } else {
+        b", not reentrant"
+    };
+    Line::new()
+        .field(b"Module ", m as u64)
+        .field(b": level ", u64::from(e.level))
+        .field(b", core units ", u64::from(e.units))
+        .text(reentrant)
+        .field(b", entry point ", u64::from(e.point))
 }

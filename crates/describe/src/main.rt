@@ -2,64 +2,56 @@
 // or what is in it; then writes it back and tells whether the same bytes came out. Where the input cannot be read or the output cannot be written, it says so
 // on standard error.
 //
-// It knows the image alone, and nothing of tables or calls.
+// It knows the image alone, and nothing of tables or calls. Each line is tried, also after one that could not be written; the answer is the first failure.
 #![tactic(auto)]
 
 mod listing;
 
-use answers::Outcome;
+use answers::Refusal;
 use image::Directory;
-use lines::text;
+use lines::Line;
+use saying::Trouble;
+use std::io;
 
 fn main(rt: HostRuntime) {
     // one byte more than an image has, so that a longer input is seen to be longer
     let mut input = [0u8; 513];
-    let got = pipes::take(&rt, &mut rt.stdin(), &mut input);
-    if got.failed {
-        saying::unread(rt);
+    let Ok(n) = pipes::take(&rt, &mut rt.stdin(), &mut input) else {
+        Trouble::Unread.say(rt, None);
         return;
-    }
-    let n = got.count;
-    if !describe(rt, &input[..n]) {
-        saying::unwritten(rt);
-    }
-}
-
-// Each answer is false where a line could not be written.
-fn describe(rt: HostRuntime, bytes: &[u8]) -> bool {
-    let loaded = image::load(bytes);
-    let outcome = loaded.outcome;
-    let found = loaded.directory;
-    match outcome {
-        Outcome::Refused(number) => refused(rt, number),
-        Outcome::Accepted(_) => accepted(rt, found, bytes),
+    };
+    if describe(rt, &input[..n]).is_err() {
+        Trouble::Unwritten.say(rt, None);
     }
 }
 
-fn refused(rt: HostRuntime, number: u8) -> bool {
-    let by = lines::field(lines::empty(), b"The image is refused by ", number as u64);
-    let why = explain::refused::image(text(by, b": "), number);
-    saying::line(rt, text(why, b"."))
+fn describe(rt: HostRuntime, bytes: &[u8]) -> io::Result<()> {
+    match image::load(bytes) {
+        Ok(found) => accepted(rt, found, bytes),
+        Err(refusal) => refused(rt, refusal),
+    }
 }
 
-fn accepted(rt: HostRuntime, found: Directory, bytes: &[u8]) -> bool {
-    let one = saying::line(rt, text(lines::empty(), b"The image is accepted."));
+fn refused(rt: HostRuntime, refusal: Refusal) -> io::Result<()> {
+    let number = u8::from(refusal);
+    let by = Line::new()
+        .field(b"The image is refused by ", u64::from(number))
+        .text(b": ");
+    saying::line(rt, explain::refused::image(by, number).text(b"."))
+}
+
+fn accepted(rt: HostRuntime, found: Directory, bytes: &[u8]) -> io::Result<()> {
+    let one = saying::line(rt, Line::new().text(b"The image is accepted."));
     let two = listing::directory(rt, found);
     let mut back = [0u8; 512];
-    image::write(found, &mut back);
-    let three = if check::same(&back, bytes) {
-        saying::line(
-            rt,
-            text(
-                lines::empty(),
-                b"Written back, it gives the same 512 bytes.",
-            ),
-        )
-    } else {
-        saying::line(
-            rt,
-            text(lines::empty(), b"Written back, it gives other bytes."),
-        )
-    };
-    one & two & three
+    let same = image::write(found, &mut back).is_ok() && &back[..] == bytes;
+    let three = saying::line(
+        rt,
+        if same {
+            Line::new().text(b"Written back, it gives the same 512 bytes.")
+        } else {
+            Line::new().text(b"Written back, it gives other bytes.")
+        },
+    );
+    one.and(two).and(three)
 }

@@ -1,8 +1,7 @@
 -- Document 01, 'A session in full': "It writes a line for the load (refusal, M or 0, 0), then one per call". What more a line tells is what the desk is asked for.
-use Rattle.std.specs.Prelude.{List, ◌++◌, ◌≡◌, ℕ, ◌<◌}
+use Rattle.std.specs.Prelude.{List, ◌++◌, ◌≡◌, ℕ, ◌<◌, length}
 use Rattle.calls.specs.declared.Answer.{Answer}
-use Rattle.lines.specs.Lines.{room, text_of, answer_of}
-use Rattle.lines.specs.declared.Line.{Line}
+use Rattle.lines.specs.Lines.{room, answer_of}
 use Rattle.readings.specs.Readings.{changed_of, begun_of}
 use Rattle.tables.specs.declared.Tables.{Tables}
 use Rattle.tables.specs.Blocks.{task_blocks}
@@ -28,10 +27,10 @@ TellsLoad Words a xs = Unit
 TellsLoad Readings a xs = xs ≡ answer_of a
 
 -- a call's line, and the load's; there is room for the line's end
-pub record Told (before after : Tables) (a : Answer) (w : Wish) (r : Line) : Type 0 where
-  pub text : Tells w before after a (text_of r)
-  pub room : r.used < room
+pub record Told (before after : Tables) (a : Answer) (w : Wish) (r : List ℕ) : Type 0 where
+  pub text : Tells w before after a r
+  pub room : length r < room
 
-pub record Opens (a : Answer) (w : Wish) (r : Line) : Type 0 where
-  pub text : TellsLoad w a (text_of r)
-  pub room : r.used < room
+pub record Opens (a : Answer) (w : Wish) (r : List ℕ) : Type 0 where
+  pub text : TellsLoad w a r
+  pub room : length r < room

@@ -1,170 +1,139 @@
 // The desk: reads an image and then calls from standard input, and writes a line for the load and one for each call: refusal, result, running task.
 // With `--explain` each line goes on with the same in words, and with who begins to wait; with `--since` with the readings that the call has changed. With
-// `--lowest` core is granted by the lowest start, as in recordings made before E8 of document 02. Where the input cannot be read or the output cannot be written,
-// it says so on standard error, with how many calls were answered.
+// `--lowest` core is granted by the lowest start, as in recordings made before E8 of document 02. Where the input cannot be read or the output cannot be
+// written, it says so on standard error, with how many calls were answered.
 //
 // It answers for 'A session in full' of document 01. It keeps one set of tables, which `executive::khilzurgee_advance` changes where they lie.
 #![tactic(auto)]
 
 mod telling;
 
-ghost use Rattle.std.specs.Prelude.{◌≤◌};
+ghost use Rattle.std.specs.Prelude.{◌<◌, length};
+ghost use Rattle.lines.specs.Lines.{room};
 
-use calls::Answer;
+use lines::Line;
+use pools::Rule;
+use saying::Trouble;
 use std::env::FillError;
 use std::rt::Env;
 use tables::Tables;
 use telling::Wish;
 
-// What was read of one call: the bytes, and how many of the 16 came before the input ended.
-#[derive(Clone, Copy)]
-pub struct Taken {
-    pub bytes: [u8; 16],
-    pub count: usize,
+// What ended a session before its input did, and how many calls were answered by then.
+#[derive(Clone, Copy, Debug, PartialEq, Eq)]
+struct Stopped {
+    trouble: Trouble,
+    answered: u64,
 }
 
 fn main(rt: HostRuntime) {
     let lowest = given(rt, b"--lowest");
     let explain = given(rt, b"--explain");
     let since = given(rt, b"--since");
-    let known = 1 + one(lowest) + one(explain) + one(since);
-    if (known < arg_count(rt)) | (explain & since) {
-        pipes::give(
+    let known = 1 + usize::from(lowest) + usize::from(explain) + usize::from(since);
+    if known < arg_count(rt) || (explain && since) {
+        // standard error is the last place that could tell of a failure
+        let _ = pipes::give(
             &rt,
             &mut rt.stderr(),
             b"usage: desk [--lowest] [--explain | --since]\n",
         );
-    } else if explain {
-        open(rt, lowest, Wish::Words);
-    } else if since {
-        open(rt, lowest, Wish::Readings);
+        return;
+    }
+    let rule = if lowest {
+        Rule::LowestStart
     } else {
-        open(rt, lowest, Wish::Numbers);
+        Rule::SmallestHole
+    };
+    let wish = if explain {
+        Wish::Words
+    } else if since {
+        Wish::Readings
+    } else {
+        Wish::Numbers
+    };
+    if let Err(stopped) = open(rt, rule, wish) {
+        stopped.trouble.say(rt, Some(stopped.answered));
     }
 }
 
 // The word is one of those that the program was started with.
 fn given(rt: HostRuntime, word: &[u8]) -> bool {
-    let words = arg_count(rt);
-    let mut found = false;
-    let mut i: usize = 1;
-    while i < words {
+    for i in 1..arg_count(rt) {
         let mut next = [0u8; 9];
         let n = rt.arg(i, &mut next).unwrap_or(0);
-        found = found | check::same(&next[..n], word);
-        i += 1;
+        if &next[..n] == word {
+            return true;
+        }
     }
-    found
+    false
 }
 
 // How many words the program was started with, its own name among them.
 fn arg_count(rt: HostRuntime) -> usize {
-    let mut i: usize = 0;
-    while i < usize::MAX {
+    for i in 0..usize::MAX {
         let mut next = [0u8; 9];
         if matches!(rt.arg(i, &mut next), Err(FillError::NotPresent)) {
             return i;
         }
-        i += 1;
     }
-    i
-}
-
-// 1 for a word that was given.
-fn one(given: bool) -> usize
-    ensures { result ≤ 1 }
-{
-    if given { 1 } else { 0 }
+    usize::MAX
 }
 
 // Reads the image: 512 bytes, or what there is.
-fn open(rt: HostRuntime, lowest: bool, wish: Wish) {
+fn open(rt: HostRuntime, rule: Rule, wish: Wish) -> Result<(), Stopped> {
     let mut image = [0u8; 512];
-    let got = pipes::take(&rt, &mut rt.stdin(), &mut image);
-    if got.failed {
-        saying::unread_after(rt, 0);
-        return;
-    }
-    let n = got.count;
-    session(rt, &image[..n], lowest, wish);
+    let n = pipes::take(&rt, &mut rt.stdin(), &mut image).map_err(|_| unread(0))?;
+    session(rt, &image[..n], rule, wish)
 }
 
-// The load, for grants by the smallest hole or by the lowest start, and the calls where it is accepted.
-fn session(rt: HostRuntime, image: &[u8], lowest: bool, wish: Wish) {
-    let begun = if lowest {
-        executive::load_lowest(image)
-    } else {
-        executive::load(image)
-    };
-    let answer = executive::line(begun);
-    if !saying::line(rt, telling::opening(answer, wish)) {
-        saying::unwritten_after(rt, 0);
-        return;
+// The load, for grants by a rule, and the calls where it is accepted.
+fn session(rt: HostRuntime, image: &[u8], rule: Rule, wish: Wish) -> Result<(), Stopped> {
+    let begun = executive::load(rule, image);
+    write(rt, telling::opening(executive::line(begun), wish), 0)?;
+    if begun.outcome.is_ok() {
+        serve(rt, begun.tables, wish)?;
     }
-    if answer.refusal == 0 {
-        let tables = begun.tables;
-        serve(rt, tables, wish);
-    }
+    Ok(())
 }
 
-// The desk loop: it lends the tables to the executive, call by call. A proved loop has to end, and nothing says that the input does: it counts the calls that it
-// has answered, up to a number that no session reaches.
-fn serve(rt: HostRuntime, start: Tables, wish: Wish) {
+// The desk loop: it lends the tables to the executive, call by call, each of 16 bytes, or of what is left at the end. A proved loop has to end, and nothing
+// says that the input does: it counts the calls that it has answered, up to a number that no session reaches.
+fn serve(rt: HostRuntime, start: Tables, wish: Wish) -> Result<(), Stopped> {
     let mut tables = start;
-    let mut answered: u64 = 0;
-    while answered < u64::MAX {
-        let call = take(rt, answered);
-        let bytes = call.bytes;
-        let n = call.count;
+    for answered in 0..u64::MAX {
+        let mut call = [0u8; 16];
+        let n = pipes::take(&rt, &mut rt.stdin(), &mut call).map_err(|_| unread(answered))?;
         if n == 0 {
-            break;
+            return Ok(());
         }
         let before = tables;
-        let answer = executive::khilzurgee_advance(&mut tables, &bytes[..n]);
-        let over = report(rt, call, before, tables, answer, wish, answered);
-        if over {
-            break;
+        let answer = executive::khilzurgee_advance(&mut tables, &call[..n]);
+        write(
+            rt,
+            telling::told(&call[..n], before, tables, answer, wish),
+            answered,
+        )?;
+        if n < 16 {
+            return Ok(());
         }
-        answered += 1;
+    }
+    Ok(())
+}
+
+fn unread(answered: u64) -> Stopped {
+    Stopped {
+        trouble: Trouble::Unread,
+        answered,
     }
 }
 
-// Reads the next call: 16 bytes, or what is left. Where the input cannot be read that is said, and there is no call.
-fn take(rt: HostRuntime, answered: u64) -> Taken
-    ensures { result.count ≤ 16 }
+// Writes a line, after so many answered calls.
+fn write(rt: HostRuntime, line: Line, answered: u64) -> Result<(), Stopped>
+    requires { length line < room }
 {
-    let mut bytes = [0u8; 16];
-    let got = pipes::take(&rt, &mut rt.stdin(), &mut bytes);
-    if got.failed {
-        saying::unread_after(rt, answered);
-        return Taken {
-            bytes: bytes,
-            count: 0,
-        };
-    }
-    Taken {
-        bytes: bytes,
-        count: got.count,
-    }
-}
-
-// Writes the line of an answered call. True where the session is over: the call was the short last one, or the line could not be written, which is said.
-fn report(
-    rt: HostRuntime,
-    call: Taken,
-    before: Tables,
-    after: Tables,
-    answer: Answer,
-    wish: Wish,
-    answered: u64,
-) -> bool
-    requires { call.count ≤ 16 }
-{
-    let bytes = call.bytes;
-    let n = call.count;
-    if saying::line(rt, telling::told(&bytes[..n], before, after, answer, wish)) {
-        return n < 16;
-    }
-    saying::unwritten_after(rt, answered);
-    true
+    saying::line(rt, line).map_err(|_| Stopped {
+        trouble: Trouble::Unwritten,
+        answered,
+    })
 }

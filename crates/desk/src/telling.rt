@@ -6,22 +6,23 @@ use lines::Line;
 use tables::Tables;
 
 // What is asked for: nothing more, words (`--explain`), or the readings that a call has changed (`--since`).
-#[derive(Clone, Copy)]
+#[derive(Clone, Copy, Debug, PartialEq, Eq)]
 pub enum Wish {
     Numbers,
     Words,
     Readings,
 }
 
+// Each match is over the cases of an enum, which the promises `Opens` and `Told` go by too.
+
 // The line of the load, which changes no reading.
 pub fn opening(answer: Answer, wish: Wish) -> Line
     ensures { Opens answer wish result }
 {
-    let numbers = lines::answer(answer);
+    let numbers = Line::from(answer);
     match wish {
-        Wish::Numbers => numbers,
-        Wish::Words => explain::load(lines::text(numbers, b"  "), answer),
-        Wish::Readings => numbers,
+        Wish::Numbers | Wish::Readings => numbers,
+        Wish::Words => explain::load(numbers.text(b"  "), answer),
     }
 }
 
@@ -29,11 +30,11 @@ pub fn opening(answer: Answer, wish: Wish) -> Line
 pub fn told(call: &[u8], before: Tables, after: Tables, answer: Answer, wish: Wish) -> Line
     ensures { Told before after answer wish result }
 {
-    let numbers = lines::answer(answer);
+    let numbers = Line::from(answer);
     match wish {
         Wish::Numbers => numbers,
         Wish::Words => readings::begun(
-            explain::call(lines::text(numbers, b"  "), call, answer),
+            explain::call(numbers.text(b"  "), call, answer),
             before,
             after,
         ),

@@ -1,6 +1,6 @@
 -- What the abort leaves after each of its steps: the task that lost its link can end, alone or beside its parent, which is in LINK; and then the parent
 -- is the one in hand. And what is aborted, step by step; and a step as the code takes it.
-use mathlib.Core.Path.{◌≡◌, refl, sym, ap, subst, ◌∙◌}
+use mathlib.Core.Path.{◌≡◌, refl, ap}
 use mathlib.Core.Logic.{◌≢◌, ⊎_elim}
 use mathlib.Core.List.{[], ◌∷◌}
 use Prim.Native.Nat.{ℕ, zero, suc, ◌-◌, ◌≤◌}
@@ -18,7 +18,6 @@ use Rattle.lawful.specs.Resting.{Aborting}
 use Rattle.lawful.proofs.Each.Finish.{grab, parent-low, parent-links}
 use Rattle.lawful.proofs.Blocks.Unlink.{unlink-rest}
 use Rattle.lawful.proofs.Each.Abort.{aborted-none, alone, child, abort-next}
-use Rattle.ending.specs.declared.abort.Gone.{Gone}
 use Rattle.ending.specs.Ending.{Finishing}
 use Rattle.ending.proofs.Shown.{then}
 
@@ -81,24 +80,24 @@ module _ {n k : ℕ} {s : State} (a : Aborting n k s) where
     pub abort-further : {r : Tables} → Shows r (aborted (n - 1) p (read u)) → Shows r (aborted n k s)
     abort-further e = rw (aborted-step n a) (then (aborted (n - 1) p) w e)
 
--- ---- A step as the code takes it: what it asks, what it returns, and what is told at the end.
+-- ---- A step as the code takes it: what it asks, what it leaves, and what is told at the end.
 abbrev pub Asked : Tables → ℕ → ℕ → Type 0
 Asked t k n = Sound t.threads × Aborting n k (read t)
-
-abbrev pub Stepped : Tables → ℕ → Gone → Type 0
-Stepped t k g = Shows g.tables (ended (unlinked (read t) k) k) × (g.parent ≡ (task_at (read t) k).parent)
 
 abbrev pub Told : Tables → ℕ → ℕ → Tables → Type 0
 Told t k n r = Shows r (aborted n k (read t))
 
-module _ {t : Tables} {k n : ℕ} (a : Asked t k n) {g : Gone} (e : Stepped t k g) where
+module _ {t u : Tables} {k n : ℕ} (a : Asked t k n) (e : Shows u (ended (unlinked (read t) k) k)) where
+  abbrev above : ℕ
+  above = (task_at (read t) k).parent
+
   -- with no parent the abort is done
-  pub step-last : g.parent ≡ 0 → Told t k n g.tables
-  step-last z = abort-last a.1 e.0 (sym e.1 ∙ z)
+  pub step-last : above ≡ 0 → Told t k n u
+  step-last z = abort-last a.1 e z
 
   -- with one it goes on, with less left of the chain
-  pub step-asks : g.parent ≢ 0 → Asked g.tables g.parent (n - 1)
-  step-asks z = (e.0.sound, rw e.1 (abort-parent a.1 e.0 (λ i. z (e.1 ∙ i))))
+  pub step-asks : above ≢ 0 → Asked u above (n - 1)
+  step-asks z = (e.sound, abort-parent a.1 e z)
 
-  pub step-tells : (r : Tables) → Told g.tables g.parent (n - 1) r → Told t k n r
-  step-tells r f = abort-further a.1 e.0 (subst (λ (p : ℕ). Shows r (aborted (n - 1) p (read g.tables))) e.1 f)
+  pub step-tells : (r : Tables) → Told u above (n - 1) r → Told t k n r
+  step-tells r f = abort-further a.1 e f

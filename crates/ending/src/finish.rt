@@ -27,8 +27,7 @@ pub fn finish(t: Tables, k: u8) -> Tables
 {
     let a = serve::give_back(t, k);
     let b = free::free_done(a, k);
-    let x = b.tasks[k as usize];
-    let c = parent_ready(b, x.parent);
+    let c = parent_ready(b, b.tasks[k as usize].parent);
     free::free_task(c, k)
 }
 
@@ -41,7 +40,6 @@ pub fn end(t: Tables, k: u8) -> Tables
         return finish(t, k);
     }
     let mut u = t;
-    let x = blocks::moving(u.clock, u.tasks[k as usize], ENDING);
-    u.tasks[k as usize] = x;
+    u.tasks[k as usize] = blocks::moving(u.clock, u.tasks[k as usize], ENDING);
     u
 }

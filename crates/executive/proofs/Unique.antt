@@ -1,5 +1,5 @@
 -- No second answer: any two results that both meet what a public function of this crate promises are equal, and so are the tables that two runs leave. `Post`
--- is the promise itself, as the contract in the source states it. Of the two loads and the call that are lent the tables, which are walked by hand, it is the clause in
+-- is the promise itself, as the contract in the source states it. Of the two loads and the call that are lent the tables it is the clause in
 -- the program logic: from it for two answers follows that they are equal.
 use mathlib.Core.Path.{◌≡◌, sym, ◌∙◌}
 use mathlib.Core.List.{List, [], ◌∷◌}
@@ -15,7 +15,9 @@ use prog.Memory.{Memory}
 use prog.Routine.{Routine}
 use Rattle.calls.specs.declared.Answer.{Answer}
 use Rattle.calls.proofs.Unique.{one_answer}
+use Rattle.pools.specs.declared.Rule.TheVariants.{LowestStart}
 use Rattle.tables.specs.declared.Tables.{Tables}
+use Rattle.meaning.proofs.Once.{stepped-once}
 use Rattle.words.proofs.Once.{OneAnswer, facts-once}
 use Rattle.executive.specs.contracts.khilzurgee_advance as advance
 use Rattle.executive.proofs.khilzurgee_block_check.Reads as block-check
@@ -23,18 +25,18 @@ use Rattle.executive.proofs.khilzurgee_image_check.Reads as check
 use Rattle.executive.specs.contracts.khilzurgee_load as lent-load
 use Rattle.executive.specs.contracts.khilzurgee_load_lowest as lent-lowest
 use Rattle.executive.proofs.load.Reads as load
-use Rattle.executive.proofs.load_lowest.Reads as load-lowest
 use Rattle.executive.proofs.line.Reads as line
 use Rattle.executive.proofs.step.Reads as step
 
 pub load-only : OneAnswer load.Post
-load-only κs given r s end end' p q = p ∙ sym q
+load-only κs given r s end end' p q = stepped-once r s (p ∙ sym q)
 
-pub load-lowest-only : OneAnswer load-lowest.Post
-load-lowest-only κs given r s end end' p q = p ∙ sym q
+-- of the old program: the same at its rule
+pub load-lowest-only : (κs : _) (image : _) (r s : _) (end end' : _) → load.Post κs (LowestStart, (image, tt)) r end → load.Post κs (LowestStart, (image, tt)) s end' → r ≡ s
+load-lowest-only κs image r s end end' p q = load-only κs (LowestStart, (image, tt)) r s end end' p q
 
 pub step-only : OneAnswer step.Post
-step-only κs given r s end end' p q = p ∙ sym q
+step-only κs given r s end end' p q = stepped-once r s (p ∙ sym q)
 
 pub line-only : OneAnswer line.Post
 line-only κs given r s end end' p q = one_answer r s _ p q

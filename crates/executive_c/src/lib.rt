@@ -1,7 +1,8 @@
 // The executive for C and Rust: the static library that a station links, with the two loads, the call, the image check and the block check.
 // `include/khilzurgee.h` declares them and the layout of the structs.
 //
-// Each is one call of the function of its name in `executive`, whose promise it says again: any bytes, any tables, nothing is asked.
+// Each is one call of the function of its name in `executive`, whose promise it says again: any bytes, any tables, nothing is asked. C links these names, and a
+// static library exports those of its own crate alone.
 #![tactic(auto)]
 
 ghost use Rattle.std.specs.Prelude.{[], ◌∷◌, ◌≡◌};

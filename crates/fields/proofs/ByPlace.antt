@@ -7,13 +7,12 @@ use lib.Dec.{eqb, leb, ltb}
 use native.Mathlib.Omega.{arith}
 use borrow.Author.Tests.{ne_eqb, le-leb}
 use Rattle.words.proofs.Truth.{tested, and_assoc, and-true, or-none}
-use Rattle.words.specs.Words.{if◌then◌else◌, ◌implies◌}
+use Rattle.words.specs.Words.{◌implies◌}
 use Rattle.tables.specs.declared.Task.{Task}
-use Rattle.tables.specs.declared.Request.{Request}
 use Rattle.tables.specs.Blocks.{InCore, InEvent, InTime, InCheck, waits_in}
-use Rattle.meaning.specs.Rules.{queue_for, blank_task, request_in_range, blank_request}
-use Rattle.fields.specs.Blocks.{fields_right, core_right, own_right, place_right, waiter_right, since_right, pending_right, request_right}
-use Rattle.meaning.proofs.Blanks.{task-blank, request-blank}
+use Rattle.meaning.specs.Rules.{queue_for, blank_task}
+use Rattle.fields.specs.Blocks.{fields_right, core_right, own_right, place_right, waiter_right, since_right, pending_right}
+use Rattle.meaning.proofs.Blanks.{task-blank}
 
 -- ---- Tests of which one is known.
 
@@ -75,10 +74,6 @@ module _ (units defined on : ℕ) (own some : Bool) (x : Task) where
   unfolding waiter_right
   in-core i e = rw (i, e) (simp known (simp flat))
 
-  pub in-event : {b : Bool} → b ≡ waiter_right defined on x → x.place ≡ 4 → (eqb x.time 0 && eqb x.request 0 && b) ≡ asked
-  unfolding waiter_right
-  in-event i e = rw (i, e) (simp known (simp flat))
-
   pub in-time : x.place ≡ 5 → (eqb x.count 0 && eqb x.events 0 && eqb x.request 0) ≡ asked
   unfolding waiter_right
   in-time e = rw e (simp known (simp flat))
@@ -124,17 +119,3 @@ module _ (modules defined on clock stands level units : ℕ) (runs free own some
       (not (eqb x.place InCheck) implies eqb x.request 0)
       ((eqb x.place InCore implies needs) && (needs implies (eqb x.place InCore || eqb x.place InEvent || eqb x.place InTime)))
       (waiter_right defined on x && pending_right own some x) (leb x.since clock)))))
-
--- ---- A request block.
-
-module _ (stands : ℕ) (on free used : Bool) (q : Request) where
-  request-of-free : q.place ≡ 0 → (b : Bool) → blank_request q ≡ b → (eqb stands 9 && not on && free && blank_request q) ≡ request_right stands on free used q
-  request-of-free e true z = rw (request-blank q z) (simp known)
-  request-of-free e false z = rw (z, e) (simp and_none)
-
-  pub free-request : {b : Bool} → b ≡ blank_request q → q.place ≡ 0 → (eqb stands 9 && not on && free && b) ≡ request_right stands on free used q
-  free-request i e = rw i (request-of-free e (blank_request q) refl)
-
-  pub used-request : {r u : Bool} {c : ℕ} → r ≡ request_in_range q → c ≡ (if eqb q.place 1 then 8 else 9) → u ≡ used → q.place ≢ 0
-      → (r && eqb stands c && beq on (eqb q.place 2) && not free && u) ≡ request_right stands on free used q
-  used-request i c u n = rw (i, c, u, ne_eqb q.place 0 n) (simp known (simp flat))

@@ -7,7 +7,7 @@ use Rattle.pools.specs.Pools.{SmallestHole}
 use Rattle.tables.specs.declared.Task.{Task}
 use Rattle.tables.specs.declared.Request.{Request}
 use Rattle.tables.specs.declared.Tables.{Tables}
-use Rattle.tables.specs.Blocks.{Free, Running, InCore, InEvent, InTime, InCheck, Ending, Queued, OnChannel, NotGranted, HoldsRun, no_request, waits_in, task_blocks, request_blocks}
+use Rattle.tables.specs.Blocks.{Free, Running, InCore, InEvent, InTime, InCheck, Ending, Queued, OnChannel, NotGranted, HoldsRun, waits_in, task_blocks, request_blocks}
 use Rattle.tables.specs.State.{State, channel_queue, node, task_at, request_at, pool_at, level_of, units_of, read}
 use Rattle.meaning.specs.Rules.{directory_passes, task_in_range, request_in_range, queue_for, blank_task, blank_request, clear_task, clear_request}
 use Rattle.threads.specs.Threads.{BLOCKS}
@@ -93,16 +93,9 @@ request_passes s r =
     let q = request_at s r in
     request_right (standing (node r) s.queues) (eqb s.channel r) (has s.free_requests r) (used_by s.free_tasks q.owner) q
 
--- the same of the tables' parts that the loop over the request blocks has, the marks among them
-unfoldable pub request_marked : List Request → List ℕ → ℕ → ℕ → ℕ → ℕ → Bool
-request_marked requests marks free_tasks free_requests channel r =
-    let q = get_or requests r no_request in
-    request_right (get_or marks (node r) 0) (eqb channel r) (has free_requests r) (used_by free_tasks q.owner) q
-
--- what that loop tells: whether the blocks pass, and the tasks that have a request pending, as a set
-pub record Gathered (requests : List Request) (marks : List ℕ) (free_tasks free_requests channel : ℕ) (ok : Bool) (owners : ℕ) : Type 0 where
-  pub right : ok ≡ all_of (request_marked requests marks free_tasks free_requests channel) (one_to request_blocks)
-  pub some : (k : ℕ) → k ≤ task_blocks → has owners k ≡ some_of (λ r. pends k (get_or requests r no_request)) (one_to request_blocks)
+-- the set has the tasks that have a request pending
+pub record Owners (s : State) (owners : ℕ) : Type 0 where
+  pub each : (k : ℕ) → k ≤ task_blocks → has owners k ≡ some_of (λ r. pends k (request_at s r)) (one_to request_blocks)
 
 -- ---- The first pass: the directory, the numbers of the tables, slot 0, and each block by itself.
 

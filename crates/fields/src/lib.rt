@@ -15,37 +15,39 @@ ghost use Rattle.fields.specs.Blocks.{Marked, first_pass};
 use image::Directory;
 use pools::SMALLEST_HOLE;
 use tables::Tables;
-use words::sets32;
+use tables::names::{REQUEST_BLOCKS, REQUEST_SLOTS, TASK_BLOCKS, TASK_SLOTS};
+use threads::CELLS;
+use words::sets;
 
 // "the directory passes 4 to 7"
 fn directory_passes(d: Directory) -> bool
     ensures { result ≡ directory_passes d }
 {
-    image::entries::fault(d) == 0
+    image::entries::check(d).is_ok()
 }
 
 // The directory, the numbers of the tables, slot 0, and each block by itself.
-pub fn first_pass(t: Tables, marks: [u8; 41]) -> bool
+pub fn first_pass(t: Tables, marks: [u8; CELLS]) -> bool
     requires { Marked t marks }
     ensures { result ≡ first_pass (read t) }
 {
-    let requests = t.requests;
-    let asked = turns::requests(requests, marks, t.free_tasks, t.free_requests, t.channel);
+    let Some(owners) = turns::requests(&t, &marks) else {
+        return false;
+    };
     let d = t.directory;
     directory_passes(d)
-        & (t.running <= 24)
-        & (t.channel <= 16)
+        & (t.running <= TASK_BLOCKS)
+        & (t.channel <= REQUEST_BLOCKS)
         & (t.holes <= SMALLEST_HOLE)
         & (t.on & d.defined == t.on)
         & (t.on & t.signalled == t.on)
         & (t.signalled & d.defined == t.signalled)
-        & (t.free_tasks < 33554432)
-        & !sets32::has(t.free_tasks, 0)
-        & (t.free_requests < 131072)
-        & !sets32::has(t.free_requests, 0)
+        & (t.free_tasks < 1 << TASK_SLOTS)
+        & !sets::has(t.free_tasks, 0)
+        & (t.free_requests < 1 << REQUEST_SLOTS)
+        & !sets::has(t.free_requests, 0)
         & block::blank_task(t.tasks[0])
         & block::blank_request(t.requests[0])
         & (t.pools[0] == 0)
-        & asked.right
-        & turns::tasks(t, marks, asked.owners)
+        & turns::tasks(&t, &marks, owners)
 }

@@ -9,17 +9,17 @@ use native.Mathlib.Omega.{arith}
 use borrow.Author.Tests.{eqb-true, eq-eqb, ne_eqb}
 use lib.ListN.{length, get_or}
 use lib.Dec.{eqb}
+use Rattle.std.specs.Prelude.{Result, Ok, Err}
 use Rattle.words.specs.Rows.{Row, ◌when◌, first_of}
 use Rattle.words.proofs.Rows.{Numbered, none, numbered, row-past, row_here, row-passed, first-stays, first_past, first-none}
 use Rattle.sealed.specs.Sealed.{passes}
-use Rattle.answers.specs.declared.Outcome.TheVariants.{Accepted}
 use Rattle.image.specs.declared.Directory.{Directory}
-use Rattle.image.specs.declared.Loaded.{Loaded}
 use Rattle.image.specs.Block.{fillers_zero}
 use Rattle.image.specs.Directory.{directory_rows}
-use Rattle.answers.specs.Answer.{refusal_of}
-use Rattle.image.specs.Load.{directory_of, block_rows, load_rows, refused_load, load_of}
-use Rattle.answers.proofs.Cases.{refusal-of}
+use Rattle.answers.specs.declared.Refusal.{Refusal}
+use Rattle.answers.specs.Answer.{Accepted, refusal_of, number}
+use Rattle.image.specs.Load.{directory_of, block_rows, load_rows, refused_load, load_of, Loaded, loaded}
+use Rattle.answers.proofs.Cases.{refusal-of, refused-by, number-once, number-some}
 
 -- the rows from the fourth on, and the last of all
 abbrev last_row : List ℕ → List Row
@@ -113,3 +113,18 @@ check-is-load b =
     ⊎_elim (λ e. ap (λ (l : Loaded). refusal_of l.outcome) (load-accepted b e) ∙ sym e)
     (λ h. ap (λ (l : Loaded). refusal_of l.outcome) (load-refused b (λ e. omega arith)) ∙ refusal-of (first_of (load_rows b)) 0)
     (eq-zero-or-pos (first_of (load_rows b)))
+
+-- A refusal by the number that the rows give is the load's answer.
+pub load-refused-by : (b : List ℕ) (e : Refusal) → number e ≡ first_of (load_rows b) → loaded (Err e) ≡ load_of b
+unfolding refused_load
+load-refused-by b e h =
+    let some : first_of (load_rows b) ≡ 0 → ⊥ = λ z. number-some e (h ∙ z) in
+    let same : refused_load (number e) ≡ loaded (Err e) = rw (refused-by (number e) (number-some e)) in
+    sym same ∙ ap refused_load h ∙ sym (load-refused b some)
+
+-- What loading gives is that of one result.
+pub loaded-once : (r s : Result Directory Refusal) → loaded r ≡ loaded s → r ≡ s
+loaded-once (Ok d) (Ok f) h = ap Ok (ap (λ (l : Loaded). l.directory) h)
+loaded-once (Ok d) (Err f) h = absurd (number-some f (sym (ap (λ (l : Loaded). refusal_of l.outcome) h)))
+loaded-once (Err e) (Ok d) h = absurd (number-some e (ap (λ (l : Loaded). refusal_of l.outcome) h))
+loaded-once (Err e) (Err f) h = ap Err (number-once e f (ap (λ (l : Loaded). refusal_of l.outcome) h))

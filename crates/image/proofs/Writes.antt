@@ -14,9 +14,8 @@ use Rattle.words.proofs.Rows.{row-past, row-passed}
 use Rattle.words.specs.Words.{below}
 use Rattle.sealed.specs.Sealed.{sealed}
 use Rattle.sealed.proofs.Seals.{sealed-length}
-use Rattle.answers.specs.declared.Outcome.TheVariants.{Refused, Accepted}
 use Rattle.image.specs.declared.Directory.{Directory}
-use Rattle.answers.specs.Answer.{refusal_of}
+use Rattle.answers.specs.Answer.{Refused, Accepted, refusal_of}
 use Rattle.image.specs.Directory.{directory_rows}
 use Rattle.image.specs.Write.{byte_of, body_of, image_of, write_rows, Written, write_of}
 

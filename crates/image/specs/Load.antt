@@ -1,13 +1,13 @@
 -- Document 01, 'Phase image': loading.
-use Rattle.std.specs.Prelude.{not, List, [], ◌∷◌, ◌++◌, map, ℕ, ◌+◌, ◌*◌, length, get_or, eqb, if◌then◌else◌}
+use Rattle.std.specs.Prelude.{not, List, [], ◌∷◌, ◌++◌, map, ℕ, ◌+◌, ◌*◌, length, get_or, eqb, if◌then◌else◌, Result, Ok, Err}
 use Rattle.words.specs.Words.{below}
 use Rattle.words.specs.Bytes.{number}
 use Rattle.words.specs.Rows.{Row, ◌when◌, first_of}
 use Rattle.sealed.specs.Sealed.{passes}
 use Rattle.image.specs.declared.Entry.{Entry}
 use Rattle.image.specs.declared.Directory.{Directory}
-use Rattle.image.specs.declared.Loaded.{Loaded}
-use Rattle.answers.specs.Answer.{outcome_of}
+use Rattle.answers.specs.declared.Refusal.{Refusal}
+use Rattle.answers.specs.Answer.{Outcome, Refused, Accepted, outcome_of, number as refused_number}
 use Rattle.image.specs.Block.{fillers_zero}
 use Rattle.image.specs.Directory.{no_directory, directory_rows}
 
@@ -31,6 +31,11 @@ block_rows b =
 unfoldable pub load_rows : List ℕ → List Row
 load_rows b = block_rows b ++ (directory_rows (directory_of b) ++ 7 when (not (fillers_zero b)) ∷ [])
 
+-- What loading gives: the answer, its result M; and the directory, all zero where the image is refused.
+pub record Loaded : Type 0 where
+  pub outcome : Outcome
+  pub directory : Directory
+
 -- "The lowest that applies is given, with all-zero tables"
 unfoldable pub refused_load : ℕ → Loaded
 refused_load n = record { outcome = outcome_of n 0; directory = no_directory }
@@ -41,3 +46,8 @@ load_of b =
     let n = first_of (load_rows b) in
     if eqb n 0 then record { outcome = outcome_of 0 (directory_of b).modules; directory = directory_of b }
     else refused_load n
+
+-- what a result of the source gives
+abbrev pub loaded : Result Directory Refusal → Loaded
+loaded (Ok d) = record { outcome = Accepted d.modules; directory = d }
+loaded (Err e) = record { outcome = Refused (refused_number e); directory = no_directory }

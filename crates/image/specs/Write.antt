@@ -4,10 +4,9 @@ use Rattle.words.specs.Words.{below}
 use Rattle.words.specs.Bytes.{digit}
 use Rattle.words.specs.Rows.{Row, ◌when◌, first_of}
 use Rattle.sealed.specs.Sealed.{sealed}
-use Rattle.answers.specs.declared.Outcome.{Outcome}
 use Rattle.image.specs.declared.Entry.{Entry}
 use Rattle.image.specs.declared.Directory.{Directory}
-use Rattle.answers.specs.Answer.{outcome_of}
+use Rattle.answers.specs.Answer.{Outcome, outcome_of}
 use Rattle.image.specs.Directory.{entry_at, directory_rows}
 
 -- "level, core units .., flags .., zero, entry point in 4 bytes": byte j of an entry

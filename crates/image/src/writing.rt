@@ -56,10 +56,8 @@ pub fn image(d: Directory) -> [u8; 512]
     ensures { result ≡ image_of d }
 {
     let mut out = [0u8; 512];
-    let mut i: usize = 0;
-    while i < 510 {
+    for i in 0..510 {
         out[i] = byte(d, i);
-        i += 1;
     }
     sealed::seal(&mut out);
     out

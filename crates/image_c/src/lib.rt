@@ -1,6 +1,7 @@
 // The image check and the block check for C, in a library of their own: what the bench's editor links. `include/khilzurgee.h` declares them.
 //
-// Each is one call of the function of its name in `image`, whose promise it says again.
+// Each is one call of the function of its name in `image`, whose promise it says again: C links these names, and a static library exports those of its own
+// crate alone.
 #![tactic(auto)]
 
 ghost use Rattle.std.specs.Prelude.{◌≡◌};

@@ -1,89 +1,100 @@
 // Lines: a line as bytes, gathered piece by piece, so that it can be written in one.
+//
+// No `write!` puts a number there: no clause knows what it puts anywhere but into a String, which allocates.
 #![tactic(auto)]
 
-ghost use Rattle.std.specs.Prelude.{◌+◌, ◌≤◌, ◌<◌, length, [], ◌++◌};
+ghost use Rattle.std.specs.Prelude.{◌≡◌, ◌+◌, ◌≤◌, ◌<◌, length, [], ◌++◌};
 ghost use Rattle.text.specs.Decimals.{spelling};
 ghost use Rattle.lines.specs.Lines.{room, Holds, Adds, Fits, member_of, members_of, answer_of};
 
+use arrayvec::ArrayVec;
 use calls::Answer;
+use std::marker::Model;
 use text::decimals;
 
 // How many bytes a line has room for: `room` of specs/Lines.antt.
 const ROOM: usize = 640;
 
-// The bytes, and how many of them there are so far.
-#[derive(Clone, Copy)]
+// The bytes so far; a contract sees them as a list.
+#[derive(Debug, Drop)]
 pub struct Line {
-    pub bytes: [u8; ROOM],
-    pub used: usize,
+    gathered: ArrayVec<u8, ROOM>,
 }
 
-pub fn empty() -> Line
-    ensures { Holds result [] 0 }
-{
-    Line {
-        bytes: [0; ROOM],
-        used: 0,
-    }
+impl Model for Line {
+    ghost use Rattle.std.specs.Prelude.{ℕ, List};
+
+    ghost Value = { List ℕ };
+
+    ghost view = { λ l. l.gathered.items };
 }
 
 // The three numbers of an answer, with a space between.
-pub fn answer(a: Answer) -> Line
-    ensures { Holds result (answer_of a) 62 }
-{
-    let first = field(empty(), b"", a.refusal as u64);
-    let second = field(first, b" ", a.result as u64);
-    field(second, b" ", a.running as u64)
-}
+impl From<Answer> for Line {
+    ghost from_gives = { λ a line. Holds line (answer_of a) 62 };
 
-// The line with words behind it.
-pub fn text(l: Line, words: &[u8]) -> Line
-    requires { l.used + length words.now ≤ room }
-    ensures { Adds l words.now result }
-{
-    let mut bytes = l.bytes;
-    let used = l.used;
-    let n = words.len();
-    bytes[used..used + n].copy_from_slice(words);
-    Line {
-        bytes: bytes,
-        used: used + n,
+    fn from(a: Answer) -> Line {
+        Line::new()
+            .field(b"", u64::from(a.refusal))
+            .field(b" ", u64::from(a.result))
+            .field(b" ", u64::from(a.running))
     }
 }
 
-// The line with a name behind it, and a number behind that.
-pub fn field(l: Line, name: &[u8], value: u64) -> Line
-    requires { l.used + length name.now + 20 ≤ room }
-    ensures { Fits l (name.now ++ spelling value) (length name.now + 20) result }
-{
-    let number = decimals::spell(value);
-    let digits = number.bytes;
-    let n = number.count;
-    text(text(l, name), &digits[..n])
-}
-
-// The line with the members of a set behind it, by number, each behind a space.
-pub fn members(l: Line, set: u64) -> Line
-    requires { l.used + 210 ≤ room }
-    ensures { Fits l (members_of set 64) 192 result }
-{
-    let mut r = l;
-    let mut e: u64 = 0;
-    while e < 64 {
-        r = member(r, set, e);
-        e += 1;
+impl Line {
+    pub fn new() -> Line
+        ensures { Holds result [] 0 }
+    {
+        Line {
+            gathered: ArrayVec::new(),
+        }
     }
-    r
-}
 
-// The line with one of them, where it is in the set.
-fn member(l: Line, set: u64, e: u64) -> Line
-    requires { (l.used + 21 ≤ room) × (e < 64) }
-    ensures { Fits l (member_of set e) 3 result }
-{
-    if (set >> e) % 2 == 1 {
-        field(l, b" ", e)
-    } else {
-        l
+    pub fn bytes(&self) -> &[u8]
+        ensures { result.now ≡ self.now }
+    {
+        self.gathered.as_slice()
+    }
+
+    // The line with words behind it.
+    pub fn text(mut self, words: &[u8]) -> Line
+        requires { length self + length words.now ≤ room }
+        ensures { Adds self words.now result }
+    {
+        self.gathered.try_extend_from_slice(words).unwrap();
+        self
+    }
+
+    // The line with a name behind it, and a number behind that.
+    pub fn field(self, name: &[u8], value: u64) -> Line
+        requires { length self + length name.now + 20 ≤ room }
+        ensures { Fits self (name.now ++ spelling value) (length name.now + 20) result }
+    {
+        let number = decimals::spell(value);
+        self.text(name).text(&number)
+    }
+
+    // The line with the members of a set behind it, by number, each behind a space.
+    pub fn members(self, set: u64) -> Line
+        requires { length self + 210 ≤ room }
+        ensures { Fits self (members_of set 64) 192 result }
+    {
+        let mut line = self;
+        for e in 0..64 {
+            line = line.member(set, e);
+        }
+        line
+    }
+
+    // The line with one of them, where it is in the set.
+    fn member(self, set: u64, e: u64) -> Line
+        requires { (length self + 21 ≤ room) × (e < 64) }
+        ensures { Fits self (member_of set e) 3 result }
+    {
+        if (set >> e) % 2 == 1 {
+            self.field(b" ", e)
+        } else {
+            self
+        }
     }
 }

@@ -22,9 +22,7 @@ due_of s c = if eqb c.kind 2 then c.amount else s.clock + c.amount
 -- is at most the clock. Kind 3 is kind 2 at clock plus amount."
 unfoldable pub holds : State → Call → Bool
 holds s c =
-    if eqb c.kind 0 then true
-    else if eqb c.kind 1 then enough s c.value c.events
-    else leb (due_of s c) s.clock
+    if eqb c.kind 0 then true else if eqb c.kind 1 then enough s c.value c.events else leb (due_of s c) s.clock
 
 -- "Otherwise the task joins the event queue, by arrival,"
 unfoldable pub awaits_events : State → ℕ → Call → State

@@ -62,5 +62,4 @@ unlinked s k = with_task s k (with_parent (task_at s k) 0)
 unfoldable pub aborted : ℕ → ℕ → State → State
 aborted zero k s = s
 aborted (suc n) k s =
-    let further = aborted n (task_at s k).parent (ended (unlinked s k) k) in
-    if eqb k 0 then s else further
+    let further = aborted n (task_at s k).parent (ended (unlinked s k) k) in if eqb k 0 then s else further

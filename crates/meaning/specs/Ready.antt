@@ -57,8 +57,7 @@ seated s q k = readied (given_run (leaving s q k) k) k
 unfoldable pub serving : ℕ → List ℕ → State → State
 serving q [] s = s
 serving q (k ∷ l) s =
-    let further = serving q l (seated s q k) in
-    if fits s k then further else s
+    let further = serving q l (seated s q k) in if fits s k then further else s
 
 unfoldable pub served : State → ℕ → State
 served s level = serving (core_queue level) (queue s (core_queue level)) s
@@ -81,6 +80,4 @@ runs_first s level =
 
 unfoldable pub dispatched : State → State
 dispatched s =
-    if not (eqb s.running 0) then s
-    else if eqb (best_ready s) 0 then s
-    else runs_first s (best_ready s)
+    if not (eqb s.running 0) then s else if eqb (best_ready s) 0 then s else runs_first s (best_ready s)

@@ -206,8 +206,7 @@ events_pass s =
 -- ---- "a LINK waiter has exactly one child, a parent is in LINK"
 unfoldable pub linked : State → Bool
 linked s =
-    every_task (λ k.
-    eqb (how_many (λ c. eqb (task_at s c).parent k) (one_to task_blocks)) (if eqb (task_at s k).place InLink then 1 else 0))
+    every_task (λ k. eqb (how_many (λ c. eqb (task_at s c).parent k) (one_to task_blocks)) (if eqb (task_at s k).place InLink then 1 else 0))
 
 -- ---- "a used request's owner is a used task"
 unfoldable pub owned : State → Bool

@@ -96,8 +96,7 @@ awaits_request s r = let k = s.running in with_running (with_task s k (awaiting_
 
 unfoldable pub check : State → Call → Effect
 check s c =
-    let r = c.number in
-    (if eqb (request_at s r).place Done then freed_request s r else awaits_request s r) giving 1
+    let r = c.number in (if eqb (request_at s r).place Done then freed_request s r else awaits_request s r) giving 1
 
 -- ---- Interrupts.
 

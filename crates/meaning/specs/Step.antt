@@ -1,15 +1,24 @@
 -- One call, whole: what the step has to give, for any tables and any bytes. And what loading gives.
 use Rattle.std.specs.Prelude.{List, ℕ, eqb, if◌then◌else◌}
 use Rattle.words.specs.Rows.{first_of}
-use Rattle.answers.specs.Answer.{refusal_of, outcome_of}
+use Rattle.answers.specs.Answer.{Outcome, refusal_of, outcome_of, answered}
 use Rattle.image.specs.Load.{load_of}
 use Rattle.tables.specs.declared.Tables.{Tables}
 use Rattle.tables.specs.State.{read, tabled, loaded, all_zero}
-use Rattle.meaning.specs.declared.Step.{Step}
+use Rattle.meaning.specs.declared.Stepped.{Stepped}
 use Rattle.calls.specs.Calls.{call_of, numbers}
 use Rattle.meaning.specs.Ready.{dispatched}
 use Rattle.meaning.specs.Services.{effect}
 use Rattle.meaning.specs.Refusals.{refusals}
+
+-- what a step gives: the tables as it leaves them, and the answer
+pub record Step : Type 0 where
+  pub tables : Tables
+  pub outcome : Outcome
+
+-- the step that the code gives
+abbrev pub stepped : Stepped → Step
+stepped r = record { tables = r.tables; outcome = answered r.outcome }
 
 -- "A refused call has result 0, leaves every table as it found it"
 unfoldable pub refused : Tables → ℕ → Step

@@ -3,7 +3,7 @@
 // It has the types of what a call gives, and no code. Whoever wants to know what must be believed reads specs/ beside document 01.
 #![tactic(auto)]
 
-use answers::Outcome;
+use answers::Refusal;
 use tables::Tables;
 
 // What an accepted call gives: the tables, before the dispatch, and the result.
@@ -15,7 +15,7 @@ pub struct Given {
 
 // What a step gives: the tables as it leaves them, and the answer. The third number of the answer is the task that runs in them.
 #[derive(Clone, Copy)]
-pub struct Step {
+pub struct Stepped {
     pub tables: Tables,
-    pub outcome: Outcome,
+    pub outcome: Result<u8, Refusal>,
 }

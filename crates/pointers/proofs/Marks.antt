@@ -1,5 +1,7 @@
 -- The marks that the walk leaves: each block is marked with its queue, and a block of no queue with 9.
 use mathlib.Core.Bool.{Bool, true, false, true≢false}
+use Rattle.std.specs.Prelude.{Option, is_some, unwrap_or}
+use Rattle.std.specs.Bool.{then_some}
 use mathlib.Core.Path.{◌≡◌, refl, sym, ap, ◌∙◌}
 use mathlib.Core.Logic.{◌≢◌, ⊎_elim}
 use mathlib.Core.List.{List, [], ◌∷◌, ◌++◌, append-nil}
@@ -25,7 +27,7 @@ use Rattle.pointers.proofs.Found.{Lengths, unmarked}
 use Rattle.pointers.proofs.Goes.{counts-at, counts-take, flat-drop, flat-short}
 use Rattle.pointers.proofs.Decided.{decided}
 use Rattle.pointers.proofs.Passes.{passes, end-all, end-one, one_block}
-use Rattle.pointers.specs.Walked.{rest_clear, no_marks, marks_told, Walks, steps, last_queue}
+use Rattle.pointers.specs.Walked.{rest_clear, no_marks, Walks, steps, last_queue}
 
 pub record Marks (t : Threads) (m : List ℕ) : Type 0 where
   pub inside : (q y : ℕ) → q < QUEUES → 1 ≤ count y (queue_in (queues_of t) q) → get_or m y 0 ≡ q
@@ -194,16 +196,16 @@ marks-standing {t} {m} s k y h =
     k.inside q y (omega (arith, s.apart.nine)) i ∙ sym (standing-in y ls q b (s.apart.once y) i))
     (eq-zero-or-pos (counts y ls))
 
--- ---- for the code's loop: what is left of the walk gives what the whole gives
+-- ---- for the code's loop: what is left of the walk after n steps gives what the whole gives
 
 pub record Walking (t : Threads) (m : List ℕ) (q p y n : ℕ) : Type 0 where
   pub low : q ≤ last_queue
   pub long : length m ≡ suc BLOCKS
   pub sizes : Lengths t
-  pub same : passes t n q p y m ≡ pointers_sound t
-  pub marks : ends t n q y m ≡ ends t steps 0 (get_or t.first 0 0) no_marks
+  pub same : passes t (steps - n) q p y m ≡ pointers_sound t
+  pub marks : ends t (steps - n) q y m ≡ ends t steps 0 (get_or t.first 0 0) no_marks
 
-pub walking_start : (t : Threads) → Lengths t → Walking t no_marks 0 0 (get_or t.first 0 0) steps
+pub walking_start : (t : Threads) → Lengths t → Walking t no_marks 0 0 (get_or t.first 0 0) 0
 walking_start t s = record { low = omega arith; long = refl; sizes = s; same = decided t s; marks = refl }
 
 module _ {t : Threads} {m : List ℕ} {q p y n : ℕ} (w : Walking t m q p y n) where
@@ -224,37 +226,44 @@ module _ {t : Threads} {m : List ℕ} {q p y n : ℕ} (w : Walking t m q p y n) 
       record {
         right = h;
         sound = λ z. s;
-        stands = λ z. marks-standing {m = m} s (rw (sym (ends-all t q y m n e k) ∙ w.marks) (all-marked t s));
+        stands = λ z. marks-standing {m = m} s (rw (sym (ends-all t q y m (steps - n) e k) ∙ w.marks) (all-marked t s));
         none = λ z. absurd (true≢false (h ∙ z));
         many = w.long;
       }
 
-  walks-told : (ok : Bool) → y ≡ 0 → q ≡ last_queue → ok ≡ pointers_sound t → Walks t ok (marks_told ok m)
+  pub walking-not : passes t (steps - n) q p y m ≡ false → Walks t false no_marks
+  walking-not f = walks-not (sym f ∙ w.same)
+
+  abbrev told : Bool → Option (List ℕ)
+  told ok = then_some ok m
+
+  walks-told : (ok : Bool) → y ≡ 0 → q ≡ last_queue → ok ≡ pointers_sound t → Walks t (is_some (told ok)) (unwrap_or (told ok) no_marks)
   walks-told true e k h = walks-all e k h
   walks-told false e k h = walks-not h
 
-  pub walking-not : passes t n q p y m ≡ false → Walks t false no_marks
-  walking-not f = walks-not (sym f ∙ w.same)
+  pub walking-end : {ok : Bool} → n < steps → y ≡ 0 → get_or t.last q 0 ≡ p → q ≡ last_queue → ok ≡ rest_clear t m
+      → Walks t (is_some (told ok)) (unwrap_or (told ok) no_marks)
+  walking-end {ok} o e l k f = walks-told ok e k (f ∙ sym (end-all t q p y m (steps - n) (omega arith) e l k) ∙ w.same)
 
-  pub walking-end : {ok : Bool} → n ≢ 0 → y ≡ 0 → get_or t.last q 0 ≡ p → q ≡ last_queue → ok ≡ rest_clear t m → Walks t ok (marks_told ok m)
-  walking-end {ok} o e l k f = walks-told ok e k (f ∙ sym (end-all t q p y m n o e l k) ∙ w.same)
+  less : steps - (n + 1) ≡ steps - n - 1
+  less = omega arith
 
-  pub walking-queue : n ≢ 0 → y ≡ 0 → get_or t.last q 0 ≡ p → q ≢ 8 → Walking t m (q + 1) 0 (get_or t.first (q + 1) 0) (n - 1)
+  pub walking-queue : n < steps → y ≡ 0 → get_or t.last q 0 ≡ p → q ≢ 8 → Walking t m (q + 1) 0 (get_or t.first (q + 1) 0) (n + 1)
   walking-queue o e l k =
       record {
         low = omega (arith, w.low);
         long = w.long;
         sizes = w.sizes;
-        same = sym (end-one t q p y m n o e l k) ∙ w.same;
-        marks = sym (ends-one t q y m n o e k) ∙ w.marks;
+        same = rw less (sym (end-one t q p y m (steps - n) (omega arith) e l k) ∙ w.same);
+        marks = rw less (sym (ends-one t q y m (steps - n) (omega arith) e k) ∙ w.marks);
       }
 
-  pub walking-block : n ≢ 0 → y ≢ 0 → y ≤ BLOCKS → get_or m y 0 ≡ no_queue → get_or t.back y 0 ≡ p → Walking t (set m y q) q y (get_or t.fwd y 0) (n - 1)
+  pub walking-block : n < steps → y ≢ 0 → y ≤ BLOCKS → get_or m y 0 ≡ no_queue → get_or t.back y 0 ≡ p → Walking t (set m y q) q y (get_or t.fwd y 0) (n + 1)
   walking-block o e b k l =
       record {
         low = w.low;
         long = length-set m y q ∙ w.long;
         sizes = w.sizes;
-        same = sym (one_block t q p y m n o e b k l) ∙ w.same;
-        marks = sym (ends-block t q y m n o e) ∙ w.marks;
+        same = rw less (sym (one_block t q p y m (steps - n) (omega arith) e b k l) ∙ w.same);
+        marks = rw less (sym (ends-block t q y m (steps - n) (omega arith) e) ∙ w.marks);
       }

@@ -1,7 +1,7 @@
 -- The walk that decides whether pointers are sound, as the code makes it, and what its steps give.
-use mathlib.Core.Bool.{Bool, false, ◌&&◌}
+use mathlib.Core.Bool.{Bool, true, false, true≢false, ◌&&◌}
 use mathlib.Core.Path.{◌≡◌, refl, sym, ap, ◌∙◌}
-use mathlib.Core.Logic.{◌≢◌}
+use mathlib.Core.Logic.{◌≢◌, ⊎_elim}
 use mathlib.Core.List.{List}
 use Prim.Native.Nat.{ℕ, zero, suc, ◌+◌, ◌-◌, ◌≤◌, ◌<◌}
 use native.Mathlib.Omega.{arith}
@@ -10,8 +10,8 @@ use lib.Dec.{eqb, leb}
 use borrow.Author.Tests.{eq-eqb, ne_eqb, le-leb, lt-leb}
 use Rattle.threads.specs.declared.Threads.{Threads}
 use Rattle.words.specs.Words.{if◌then◌else◌, one_to, all_of}
-use Rattle.words.proofs.Truth.{and_assoc, and-true}
-use Rattle.words.proofs.OneTo.{gather-next}
+use Rattle.words.proofs.Truth.{same_truth, and-of, both, tested, true-or-false}
+use Rattle.threads.proofs.Tests.{all-to, to-all}
 use Rattle.pointers.specs.Walked.{clear_at, rest_clear, last_queue}
 use Rattle.threads.specs.Threads.{BLOCKS, no_queue}
 
@@ -24,22 +24,22 @@ passes t (suc n) q p y m =
     then eqb (get_or t.last q 0) p && (if eqb q 8 then rest_clear t m else passes t n (q + 1) 0 (get_or t.first (q + 1) 0) m)
     else leb y 40 && eqb (get_or m y 0) 9 && eqb (get_or t.back y 0) p && passes t n q y (get_or t.fwd y 0) (set m y q)
 
--- ---- the rest: slot 0, and then each block, gathered
+-- ---- the rest: a test that is true where each block passes, and false where one does not
 
-module _ (t : Threads) (m : List ℕ) where
-  pub rest-start : {r : Bool} → r ≡ clear_at t m 0 → r ≡ (clear_at t m 0 && all_of (clear_at t m) (one_to 0))
-  unfolding all_of one_to
-  rest-start e = e ∙ sym (and-true (clear_at t m 0))
-
-  pub rest-next : (i : ℕ) {b r : Bool} → b ≡ (clear_at t m 0 && all_of (clear_at t m) (one_to i)) → r ≡ clear_at t m (i + 1)
-      → (b && r) ≡ (clear_at t m 0 && all_of (clear_at t m) (one_to (i + 1)))
-  rest-next i {b} {r} e f =
-      ap (λ (x : Bool). x && r) e ∙ sym (and_assoc (clear_at t m 0) (all_of (clear_at t m) (one_to i)) r)
-      ∙ ap (λ (x : Bool). clear_at t m 0 && x) (gather-next (clear_at t m) i (all_of (clear_at t m) (one_to i)) r refl f)
-
-  pub rest_end : {i : ℕ} {b : Bool} → b ≡ (clear_at t m 0 && all_of (clear_at t m) (one_to i)) → i ≡ 40 → b ≡ rest_clear t m
-  unfolding rest_clear
-  rest_end e n = e ∙ ap (λ (i : ℕ). clear_at t m 0 && all_of (clear_at t m) (one_to i)) n
+pub rest-told : (t : Threads) (m : List ℕ) {b : Bool} → (b ≡ true → (y : ℕ) → y < 41 → clear_at t m y ≡ true) → (b ≡ false → (y : ℕ) × (y < 41) × (clear_at t m y ≡ false)) → b ≡ rest_clear t m
+unfolding rest_clear
+rest-told t m {b} f g =
+    same_truth b (clear_at t m 0 && all_of (clear_at t m) (one_to BLOCKS))
+    (λ e. and-of _ _ (f e 0 (omega arith)) (to-all (clear_at t m) BLOCKS (λ y l h. f e y (omega arith))))
+    (λ e.
+    let b' = both (clear_at t m 0) _ e in
+    ⊎_elim (λ h. h)
+    (λ h.
+    let (y, l, n) = g h in
+    let at : clear_at t m y ≡ true =
+    ⊎_elim (λ z. ap (clear_at t m) z.1 ∙ b'.0) (λ z. all-to (clear_at t m) BLOCKS b'.1 y (omega (arith, z.1)) (omega arith)) (tested y 0) in
+    absurd (true≢false (sym at ∙ n)))
+    (true-or-false b))
 
 -- ---- its steps
 

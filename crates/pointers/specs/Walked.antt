@@ -1,5 +1,5 @@
 -- What the walk along the pointers tells: whether they are sound, and the queue in which each block stands. A block of no queue has the mark `no_queue`.
-use Rattle.std.specs.Prelude.{Bool, true, false, ◌&&◌, ◌≡◌, List, ℕ, suc, ◌+◌, ◌-◌, ◌≤◌, length, get_or, replicate, eqb, if◌then◌else◌}
+use Rattle.std.specs.Prelude.{Bool, true, false, ◌&&◌, ◌≡◌, List, ℕ, suc, ◌+◌, ◌-◌, ◌≤◌, length, get_or, replicate, eqb}
 use Rattle.threads.specs.declared.Threads.{Threads}
 use Rattle.threads.specs.Threads.{queues_of, Sound, BLOCKS, QUEUES, no_queue}
 use Rattle.words.specs.Words.{◌implies◌, one_to, all_of, standing}
@@ -27,10 +27,6 @@ steps = BLOCKS + QUEUES + 1
 -- no block is marked
 abbrev pub no_marks : List ℕ
 no_marks = replicate (suc BLOCKS) no_queue
-
--- the marks of a walk are told where the pointers are sound
-abbrev pub marks_told : Bool → List ℕ → List ℕ
-marks_told sound marks = if sound then marks else no_marks
 
 -- `ok` says whether the pointers are sound. Where they are, the marks say where each block stands; where they are not, no block is marked.
 pub record Walks (t : Threads) (ok : Bool) (m : List ℕ) : Type 0 where

@@ -4,12 +4,12 @@
 // pointers, and nothing of what a block holds.
 #![tactic(auto)]
 
-ghost use Rattle.std.specs.Prelude.{◌≡◌};
-ghost use Rattle.pointers.specs.Walked.{clear_by, rest_clear, marks_told, Walks};
+ghost use Rattle.std.specs.Prelude.{◌≡◌, is_some, unwrap_or};
+ghost use Rattle.pointers.specs.Walked.{clear_by, rest_clear, no_marks, Walks};
 
 use threads::{BLOCKS, CELLS, QUEUES, Threads};
 
-// The mark of a block that is in no queue.
+// The mark of a block that is in no queue. A mark is a number and no Option: the meaning's `standing` is the number of a queue, and this one for none.
 pub const NO_QUEUE: u8 = QUEUES as u8;
 
 // The last block, and the last queue.
@@ -31,72 +31,48 @@ fn clear(mark: u8, fwd: u8, back: u8) -> bool
 fn rest_clear(t: Threads, marks: [u8; CELLS]) -> bool
     ensures { result ≡ rest_clear t marks }
 {
-    let mut right = clear(marks[0], t.fwd[0], t.back[0]);
-    let mut i: u8 = 0;
-    while i < LAST_BLOCK {
-        i += 1;
-        right = right & clear(marks[i as usize], t.fwd[i as usize], t.back[i as usize]);
-    }
-    right
+    marks
+        .iter()
+        .zip(&t.fwd)
+        .zip(&t.back)
+        .all(|((mark, fwd), back)| clear(*mark, *fwd, *back))
 }
 
-// Whether the pointers are sound; and the queue of each block. Where they are not sound, no block stands in a queue.
-#[derive(Clone, Copy)]
-pub struct Standing {
-    pub sound: bool,
-    pub marks: [u8; CELLS],
-}
-
-// The two as one answer.
-fn told(sound: bool, marks: [u8; CELLS]) -> Standing
-    ensures { result ≡ record { sound = sound; marks = marks_told sound marks } }
+// Are these the pointers of nine lists of blocks, in which none stands twice? If so, the queue of each block. Each queue is walked from its first block along
+// `fwd`, and each block is marked with its queue: a marked block ends the walk, so that no ring can hold it.
+pub fn walked(t: Threads) -> Option<[u8; CELLS]>
+    ensures { Walks t (is_some result) (unwrap_or result no_marks) }
 {
-    let mut given: [u8; CELLS] = [NO_QUEUE; CELLS];
-    if sound {
-        given = marks;
-    }
-    Standing {
-        sound: sound,
-        marks: given,
-    }
-}
-
-// Are these the pointers of nine lists of blocks, in which none stands twice? Each queue is walked from its first block along `fwd`, and each
-// block is marked with its queue: a marked block ends the walk, so that no ring can hold it.
-pub fn walked(t: Threads) -> Standing
-    ensures { Walks t result.sound result.marks }
-{
-    let mut marks: [u8; CELLS] = [NO_QUEUE; CELLS];
+    let mut marks = [NO_QUEUE; CELLS];
     let mut q: u8 = 0;
     let mut p: u8 = 0;
-    let mut y: u8 = t.first[0];
-    let mut n: u8 = STEPS;
-    while n != 0 {
-        n -= 1;
+    let mut y = t.first[0];
+    for _n in 0..STEPS {
         if y == 0 {
-            if t.last[q as usize] != p {
-                return told(false, marks);
+            if t.last[usize::from(q)] != p {
+                return None;
             }
             if q == LAST_QUEUE {
-                return told(rest_clear(t, marks), marks);
+                return rest_clear(t, marks).then_some(marks);
             }
             q += 1;
             p = 0;
-            y = t.first[q as usize];
+            y = t.first[usize::from(q)];
             continue;
         }
         if LAST_BLOCK < y {
-            return told(false, marks);
+            return None;
         }
-        if marks[y as usize] != NO_QUEUE {
-            return told(false, marks);
+        let at = usize::from(y);
+        if marks[at] != NO_QUEUE {
+            return None;
         }
-        if t.back[y as usize] != p {
-            return told(false, marks);
+        if t.back[at] != p {
+            return None;
         }
-        marks[y as usize] = q;
+        marks[at] = q;
         p = y;
-        y = t.fwd[y as usize];
+        y = t.fwd[at];
     }
-    told(false, marks)
+    None
 }

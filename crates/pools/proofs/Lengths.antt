@@ -6,7 +6,7 @@ use mathlib.Core.Logic.{⊎_elim}
 use Prim.Native.Nat.{ℕ, zero, suc, ◌+◌, ◌-◌, ◌*◌, ◌/◌, ◌%◌, ◌^◌, ◌≤◌, ◌<◌}
 use native.Mathlib.Nat.{mod-lt}
 use native.Mathlib.Omega.{arith}
-use lib.Bits.{bit_and, and_le_r}
+use lib.Bits.{bit_and}
 use lib.Count.{count_trailing_zeros}
 use lib.Dec.{eqb, leb, ltb}
 use lib.Pow.{pow_pos}
@@ -128,6 +128,3 @@ module _ {g n runs holes : ℕ} (some : 1 ≤ n) (s : Lengthening g n runs holes
           ⊎_elim (λ (x : k < s.units). s.none k i l x)
           (λ (x : s.units ≤ k). not_so (hole_at g k i) (λ h. true≢false (sym (free_part g k i (hole-free g k i h) s.units i (omega arith) (omega arith)) ∙ none i)))
           (under-or-from k s.units)
-
-pub shifted-less : (runs : ℕ) → 0 < runs → bit_and runs (runs / 2 ^ 1) < runs
-shifted-less runs l = omega (arith, and_le_r runs (runs / 2 ^ 1))

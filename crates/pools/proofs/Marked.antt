@@ -13,8 +13,7 @@ use Rattle.words.proofs.Members.{has_rest}
 use Rattle.words.proofs.Truth.{true-or-false, not_so}
 use Rattle.words.proofs.Places.{under-or-from}
 use Rattle.words.proofs.Masks.{in-run, of-run}
-use Rattle.pools.specs.declared.Found.{Found}
-use Rattle.pools.specs.declared.Found.TheVariants.{At, Nowhere}
+use Rattle.std.specs.Prelude.{Option, Some, None}
 use Rattle.pools.specs.Pools.{run, free_at, long_enough, lowest_start, hole_at, shortest, smallest_hole, SmallestHole}
 use Rattle.pools.specs.Find.{found_of}
 use Rattle.pools.proofs.Units.{free-inside, free-has, free-shown, free_part}
@@ -61,7 +60,7 @@ module _ (s n : ℕ) (inside : s + n ≤ 64) where
       (λ (l : a ≤ s). omega (arith, among))
       (under-or-from s a)
 
-  pub as_many : (holes m : ℕ) → 1 ≤ m → m ≤ n → found_of holes (all_but s n) m ≡ At s
+  pub as_many : (holes m : ℕ) → 1 ≤ m → m ≤ n → found_of holes (all_but s n) m ≡ Some s
   as_many holes m some few =
       found-at holes (all_but s n) m s (by-rule holes (all_but s n) m (λ a. a ≡ s) (as-many-lowest m some few) (as-many-smallest m some few)) (omega arith)
 
@@ -70,7 +69,7 @@ module _ (s n : ℕ) (inside : s + n ≤ 64) where
       not_so (free_at (all_but s n) m a)
       (λ h. omega (arith, in-free m a a h (omega arith) (omega arith), in-free m a (a + (m - 1)) h (omega arith) (omega arith)))
 
-  pub one_more : (holes m : ℕ) → n < m → found_of holes (all_but s n) m ≡ Nowhere
+  pub one_more : (holes m : ℕ) → n < m → found_of holes (all_but s n) m ≡ None
   one_more holes m many =
       let g = all_but s n in
       found_nowhere holes g m
@@ -80,21 +79,21 @@ module _ (s n : ℕ) (inside : s + n ≤ 64) where
 -- ---- P3 and P4, of the contract itself.
 
 module _ (holes s : ℕ) (inside : s + 60 ≤ 64) where
-  abbrev Promised : ℕ → Found → Type 0
+  abbrev Promised : ℕ → Option ℕ → Type 0
   Promised n r = find.Post tt (holes, (all_but s 60, (n, tt))) r (holes, (all_but s 60, (n, tt)))
 
-  pub P3 : (r : Found) → Promised 60 r → r ≡ At s
+  pub P3 : (r : Option ℕ) → Promised 60 r → r ≡ Some s
   P3 r p = p ∙ as_many s 60 inside holes 60 (omega arith) (omega arith)
 
-  pub P4 : (r : Found) → Promised 61 r → r ≡ Nowhere
+  pub P4 : (r : Option ℕ) → Promised 61 r → r ≡ None
   P4 r p = p ∙ one_more s 60 inside holes 61 (omega arith)
 
 -- ---- E8 of document 02, of the contract itself: a hole that is long enough, where none is shorter and none as long begins lower.
 
 module _ (g n : ℕ) (some : 1 ≤ n) where
-  abbrev Told : Found → Type 0
+  abbrev Told : Option ℕ → Type 0
   Told r = find.Post tt (SmallestHole, (g, (n, tt))) r (SmallestHole, (g, (n, tt)))
 
-  pub E8 : (m a : ℕ) → n ≤ m → hole_at g m a ≡ true → ((k b : ℕ) → n ≤ k → hole_at g k b ≡ true → (m < k) ⊎ ((m ≡ k) × (a ≤ b))) → (r : Found) → Told r → r ≡ At a
+  pub E8 : (m a : ℕ) → n ≤ m → hole_at g m a ≡ true → ((k b : ℕ) → n ≤ k → hole_at g k b ≡ true → (m < k) ⊎ ((m ≡ k) × (a ≤ b))) → (r : Option ℕ) → Told r → r ≡ Some a
   E8 m a long h f r p =
       p ∙ found-at SmallestHole g n a (start-smallest SmallestHole g n (λ z. omega arith) ∙ smallest-only g n some m a long h f) (omega (arith, hole-inside g m a h))

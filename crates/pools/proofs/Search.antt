@@ -1,7 +1,7 @@
 -- The search by shifting: the set of the starts of free runs of a given length. Met with itself shifted down by b it is that of runs longer by b. And the
 -- least of a set of starts is the start. More than 64 units are nowhere free.
 use mathlib.Core.Bool.{◌&&◌}
-use mathlib.Core.Path.{◌≡◌, sym, ap, ap₂, ◌∙◌}
+use mathlib.Core.Path.{◌≡◌, sym, ap₂, ◌∙◌}
 use Prim.Native.Nat.{ℕ, ◌+◌, ◌-◌, ◌/◌, ◌^◌, ◌≤◌, ◌<◌}
 use native.Mathlib.Omega.{arith}
 use lib.Bits.{bit_and}
@@ -36,9 +36,6 @@ module _ {g n found length : ℕ} (s : Searching g n found length) where
             has_meet found (found / 2 ^ more) i ∙ ap₂ ◌&&◌ (s.starts i) (has-down found more i ∙ s.starts (more + i))
             ∙ free-joined g length more i short;
       }
-
-  pub searching-end : n ≤ length → (i : ℕ) → has found i ≡ free_at g n i
-  searching-end l i = let e : length ≡ n = omega (arith, s.most) in s.starts i ∙ ap (λ (x : ℕ). free_at g x i) e
 
 -- ---- The start.
 

@@ -1,6 +1,6 @@
 -- `start_of`, by either rule: what it gives is a free start in the pool, and it gives one exactly where some free run is long enough, so that the rule does
 -- not say who waits; 64 says that there is none. And what is found there. By the laws of each rule alone.
-use mathlib.Core.Bool.{true, false, true≢false}
+use mathlib.Core.Bool.{Bool, true, false, true≢false}
 use mathlib.Core.Path.{◌≡◌, refl, sym, ◌∙◌}
 use mathlib.Core.Logic.{◌≢◌, ⊎_elim}
 use Prim.Native.Nat.{ℕ, ◌≤◌, ◌<◌}
@@ -10,7 +10,8 @@ use lib.Dec.{ltb}
 use borrow.Author.Tests.{eq-eqb, ne_eqb, lt-ltb, ltb-true}
 use Rattle.words.proofs.Places.{under-or-from}
 use Rattle.words.proofs.Truth.{same_truth, not_so}
-use Rattle.pools.specs.declared.Found.TheVariants.{At, Nowhere}
+use Rattle.std.specs.Prelude.{Some, None, if◌then◌else◌}
+use Rattle.std.specs.Option.{is_some}
 use Rattle.pools.specs.Pools.{free_at, long_enough, lowest_start, smallest_hole, LowestStart, start_of}
 use Rattle.pools.specs.Runs.{FreeRun}
 use Rattle.pools.specs.Find.{found_of}
@@ -59,15 +60,15 @@ module _ (holes g n : ℕ) where
 
   -- ---- What is found.
 
-  pub found-at : (a : ℕ) → start_of holes g n ≡ a → a < 64 → found_of holes g n ≡ At a
+  pub found-at : (a : ℕ) → start_of holes g n ≡ a → a < 64 → found_of holes g n ≡ Some a
   unfolding found_of
   found-at a e l = rw (e, lt-ltb a 64 l)
 
-  pub found_nowhere : start_of holes g n ≡ 64 → found_of holes g n ≡ Nowhere
+  pub found_nowhere : start_of holes g n ≡ 64 → found_of holes g n ≡ None
   unfolding found_of
   found_nowhere e = rw e
 
-  pub at-start : (a : ℕ) → found_of holes g n ≡ At a → (start_of holes g n ≡ a) × (a < 64)
+  pub at-start : (a : ℕ) → found_of holes g n ≡ Some a → (start_of holes g n ≡ a) × (a < 64)
   at-start a e =
       ⊎_elim
       (λ (l : start_of holes g n < 64). let s : start_of holes g n ≡ a = cc (found-at (start_of holes g n) refl l) in (s, omega arith))
@@ -76,12 +77,21 @@ module _ (holes g n : ℕ) where
       (under-or-from (start_of holes g n) 64)
 
   -- who is given a start had a run that is long enough, and who is not had none
-  pub at_long : (a : ℕ) → found_of holes g n ≡ At a → long_enough g n ≡ true
+  pub at_long : (a : ℕ) → found_of holes g n ≡ Some a → long_enough g n ≡ true
   at_long a e = let s = at-start a e in long-shown g n (start_of holes g n) (start-free (omega (arith, s.0, s.1)))
 
-  pub nowhere-long : found_of holes g n ≡ Nowhere → long_enough g n ≡ false
+  pub nowhere-long : found_of holes g n ≡ None → long_enough g n ≡ false
   nowhere-long e =
       not_so (long_enough g n) (λ h. let z : ◌≡◌ {A = ℕ} 0 1 = cc (found-at (start_of holes g n) refl (start-given h)) in omega arith)
+
+  -- something is found exactly where a free run is long enough
+  pub found-long : is_some (found_of holes g n) ≡ long_enough g n
+  unfolding found_of
+  found-long = rw given-where (go (ltb (start_of holes g n) 64))
+    where
+      go : (b : Bool) → is_some (if b then Some (start_of holes g n) else None) ≡ b
+      go true = refl
+      go false = refl
 
 -- what is found can be granted
 pub start-run : (holes g n a : ℕ) → start_of holes g n ≡ a → a < 64 → FreeRun g a n

@@ -1,7 +1,7 @@
 // Pools: the 64 core units of a level as a mask, granted units as ones.
 //
-// It answers for 'a core pool of 64 units, one bit for each unit' of document 01, and for E8 of document 02: whether a free run is long enough, the start that a
-// grant takes by either rule, granting it, giving it back. It knows masks, and nothing of tasks or queues.
+// It answers for 'a core pool of 64 units, one bit for each unit' of document 01, and for E8 of document 02: whether a free run is long enough, the start
+// that a grant takes by either rule, granting it, giving it back. It knows masks, and nothing of tasks or queues.
 #![tactic(auto)]
 
 ghost use Rattle.std.specs.Prelude.{not, ◌&&◌, ◌||◌, ◌≡◌, ℕ, ◌+◌, ◌-◌, ◌≤◌, eqb};
@@ -9,17 +9,30 @@ ghost use Rattle.words.specs.Words.{has};
 ghost use Rattle.pools.specs.Pools.{run, free_at, long_enough, hole_at, shortest};
 ghost use Rattle.pools.specs.Runs.{FreeRun, HeldRun};
 ghost use Rattle.pools.specs.Find.{found_in, found_of};
+ghost use Rattle.pools.specs.Rule.{rule_number};
 
 // The two rules of a grant: the lowest start at which enough units are free, document 01's; or the start of the smallest hole, E8's.
+#[derive(Clone, Copy, Debug, PartialEq, Eq)]
+pub enum Rule {
+    LowestStart,
+    SmallestHole,
+}
+
+// The rules as the tables hold them. They stay numbers here, since the tables' field `holes` is one, which C reads and which a caller may have set to any
+// other.
 pub const LOWEST_START: u64 = 0;
 
 pub const SMALLEST_HOLE: u64 = 1;
 
-// The start that a grant takes; or no free run is long enough.
-#[derive(Clone, Copy)]
-pub enum Found {
-    At(u8),
-    Nowhere,
+impl From<Rule> for u64 {
+    ghost from_gives = { λ rule result. result ≡ rule_number rule };
+
+    fn from(rule: Rule) -> u64 {
+        match rule {
+            Rule::LowestStart => LOWEST_START,
+            Rule::SmallestHole => SMALLEST_HOLE,
+        }
+    }
 }
 
 // The starts of free runs of n units, as a set. The starts of runs of a units, met with themselves shifted down by b, b at most a, are those of runs
@@ -31,18 +44,15 @@ fn free_starts(granted: u64, n: u8) -> u64
     let mut found = !granted;
     let mut length: u8 = 1;
     while length < n {
-        let mut more = n - length;
-        if length < more {
-            more = length;
-        }
+        let more = (n - length).min(length);
         found = found & (found >> more);
         length += more;
     }
     found
 }
 
-// The members of a set whose neighbours are not in it. Of the starts of free runs of m units these are the holes of m: a longer run has two starts or more, side
-// by side, and between those of two runs lies at least the unit that parts them.
+// The members of a set whose neighbours are not in it. Of the starts of free runs of m units these are the holes of m: a longer run has two starts or more,
+// side by side, and between those of two runs lies at least the unit that parts them.
 fn alone(set: u64) -> u64
     ensures { (i : ℕ) → has result i ≡ (has set i && not (has set (i + 1)) && (eqb i 0 || not (has set (i - 1)))) }
 {
@@ -64,26 +74,22 @@ fn hole_starts(granted: u64, n: u8) -> u64
 }
 
 // The lowest of a set of starts.
-fn lowest_of(starts: u64) -> Found
+fn lowest_of(starts: u64) -> Option<u8>
     ensures { result ≡ found_in starts }
 {
     let start = u64::trailing_zeros(starts);
-    if start < 64 {
-        Found::At(start as u8)
-    } else {
-        Found::Nowhere
-    }
+    if start < 64 { Some(start as u8) } else { None }
 }
 
-// The start at which a grant takes n units, by the rule.
-pub fn find(holes: u64, granted: u64, n: u8) -> Found
+// The start at which a grant takes n units, by the rule; none where no free run is long enough.
+pub fn find(holes: u64, granted: u64, n: u8) -> Option<u8>
     ensures { result ≡ found_of holes granted n }
 {
     if n == 0 {
-        return Found::At(0);
+        return Some(0);
     }
     if 64 < n {
-        return Found::Nowhere;
+        return None;
     }
     if holes == LOWEST_START {
         return lowest_of(free_starts(granted, n));
@@ -95,10 +101,7 @@ pub fn find(holes: u64, granted: u64, n: u8) -> Found
 pub fn long_enough(granted: u64, n: u8) -> bool
     ensures { result ≡ long_enough granted n }
 {
-    match find(LOWEST_START, granted, n) {
-        Found::At(_) => true,
-        Found::Nowhere => false,
-    }
+    find(LOWEST_START, granted, n).is_some()
 }
 
 // The bits of a run: n units from the start on.
@@ -109,7 +112,7 @@ pub fn mask(start: u8, n: u8) -> u64
     if n == 0 {
         return 0;
     }
-    (18446744073709551615 >> (64 - n)) << start
+    (u64::MAX >> (64 - n)) << start
 }
 
 // The pool with a free run granted.

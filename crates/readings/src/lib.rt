@@ -6,56 +6,55 @@
 
 mod beginners;
 
-ghost use Rattle.std.specs.Prelude.{◌+◌, ◌≤◌};
+ghost use Rattle.std.specs.Prelude.{◌+◌, ◌≤◌, length};
 ghost use Rattle.lines.specs.Lines.{room, Fits};
 ghost use Rattle.tables.specs.Blocks.{task_blocks};
 ghost use Rattle.readings.specs.Readings.{change_of, changed_of, since_of, begun_of};
 
-use lines::{Line, field, text};
+use lines::Line;
 use tables::Tables;
 use tables::names::TASK_COUNT;
 
-// The line with each task block behind it that has another reading than before, and its reading: " 4@17 6@0".
+// The line with each task block behind it that has another reading than before, and its reading: " 4@17 6@0". This loop and those of `Line::members` and of
+// `beginners::named` stay three: what a function over all of them would say of its closure is longer than they are.
 pub fn changed(l: Line, before: Tables, after: Tables) -> Line
-    requires { l.used + 346 ≤ room }
+    requires { length l + 346 ≤ room }
     ensures { Fits l (changed_of before after task_blocks) 336 result }
 {
-    let mut r = l;
-    let mut k: usize = 0;
-    while k < TASK_COUNT {
-        k += 1;
-        r = change(r, k as u64, before.tasks[k].since, after.tasks[k].since);
+    let mut line = l;
+    for k in 1..=TASK_COUNT {
+        line = change(line, k as u64, before.tasks[k].since, after.tasks[k].since);
     }
-    r
+    line
 }
 
 // The line with one of them, where its reading is another.
 fn change(l: Line, k: u64, was: u32, is: u32) -> Line
-    requires { (l.used + 24 ≤ room) × (k ≤ task_blocks) }
+    requires { (length l + 24 ≤ room) × (k ≤ task_blocks) }
     ensures { Fits l (change_of k was is) 14 result }
 {
     if was == is {
-        return l;
+        l
+    } else {
+        l.field(b" ", k).field(b"@", u64::from(is))
     }
-    field(field(l, b" ", k), b"@", is as u64)
 }
 
 // The line with the task blocks behind it that begin to wait, and their reading: "; waiting since 17: 4 7". Nothing where there is none.
 pub fn begun(l: Line, before: Tables, after: Tables) -> Line
-    requires { l.used + 117 ≤ room }
+    requires { length l + 117 ≤ room }
     ensures { Fits l (begun_of before after) 99 result }
 {
-    let k = beginners::first(before, after);
-    if k == 0 {
-        return l;
+    match beginners::first(before, after) {
+        Some(k) => beginners::named(since(l, after.tasks[k].since), before, after),
+        None => l,
     }
-    beginners::named(since(l, after.tasks[k].since), before, after)
 }
 
 // The line with the words behind it that stand before the blocks: "; waiting since 17:".
 fn since(l: Line, reading: u32) -> Line
-    requires { l.used + 36 ≤ room }
+    requires { length l + 36 ≤ room }
     ensures { Fits l (since_of reading) 27 result }
 {
-    text(field(l, b"; waiting since ", reading as u64), b":")
+    l.field(b"; waiting since ", u64::from(reading)).text(b":")
 }

@@ -1,67 +1,98 @@
--- Rows gathered one by one, from the first on, give the first that applies, and so do the firsts of parts. By induction on the rows: once there is a first it
--- stays.
+-- A row that applies is the first of its table, and one that does not is passed over; so it is of the table's parts, which the code asks one after the other. By
+-- induction on the rows.
 use mathlib.Core.Bool.{Bool, true, false}
+use mathlib.Core.Logic.{◌≢◌}
 use mathlib.Core.List.{List, [], ◌∷◌, ◌++◌}
-use mathlib.Core.Path.{◌≡◌, refl, ap, ap₂, ◌∙◌}
+use mathlib.Core.Path.{◌≡◌, refl, sym, ◌∙◌}
 use Prim.Native.Nat.{ℕ}
 use native.Mathlib.Omega.{arith}
 use lib.Dec.{ltb}
-use borrow.Author.Tests.{ltb-true, ne_eqb}
+use borrow.Author.Tests.{ltb-true}
 use Rattle.words.specs.Rows.{Row, ◌when◌, first_of}
 use Rattle.words.proofs.Truth.{and_left, and_right}
-use Rattle.words.proofs.Rows.{no_zero}
+use Rattle.words.proofs.Rows.{Numbered, none, numbered, first-stays, first_past, no_zero}
+use Rattle.answers.specs.declared.Refusal.{Refusal}
+use Rattle.answers.specs.Answer.{number}
+use Rattle.answers.proofs.Cases.{number-some}
 use Rattle.tables.specs.State.{State}
 use Rattle.calls.specs.declared.Call.{Call}
 use Rattle.meaning.specs.Refusals.{call_rows}
-use Rattle.refusals.specs.Next.{next, or_else}
 use Rattle.refusals.specs.Parts.{rows_to, rows_from, code_rows, named_rows, carried_rows, condition_rows, room_rows}
 
-unfoldable pub gathered : ℕ → List Row → ℕ
-gathered first [] = first
-gathered first (r ∷ l) = gathered (next first r.number r.applies) l
+-- ---- One row, asked alone with the test q, which is its test p in the table.
 
-stays : (n : ℕ) (l : List Row) → ltb 0 n ≡ true → gathered n l ≡ n
-unfolding gathered next
-stays n [] some = refl
-stays n (r ∷ l) some = rw (ne_eqb n 0 (omega (arith, ltb-true 0 n some))) (stays n l some)
+-- it applies, and what it gives is the first of the table
+pub stops : (n : ℕ) {k : ℕ} {p q : Bool} (l : List Row) → k ≡ first_of (n when q ∷ []) → k ≢ 0 → q ≡ p → k ≡ first_of (n when p ∷ l)
+unfolding first_of
+stops n {p = true} l e some same = rw same at e
+stops n {p = false} l e some same = absurd (some (rw same at e))
 
-one_more : (n : ℕ) (t : Bool) (l : List Row) → ltb 0 n ≡ true → gathered 0 l ≡ first_of l → gathered 0 (n when t ∷ l) ≡ first_of (n when t ∷ l)
-unfolding gathered next first_of
-one_more n true l some e = stays n l some
-one_more n false l some e = e
+-- it does not apply, and the later rows decide
+pub lets : {p q : Bool} (l : List Row) (by : Refusal) → 0 ≡ first_of (number by when q ∷ []) → q ≡ p → first_of l ≡ first_of (number by when p ∷ l)
+unfolding first_of
+lets {p = true} l by e same = absurd (number-some by (sym (rw same at e)))
+lets {p = false} l by e same = refl
 
-gathers : (l : List Row) → no_zero l ≡ true → gathered 0 l ≡ first_of l
-unfolding no_zero gathered first_of
-gathers [] h = refl
-gathers (r ∷ l) h = one_more r.number r.applies l (and_left (ltb 0 r.number) (no_zero l) h) (gathers l (and_right (ltb 0 r.number) (no_zero l) h))
-
--- what the code gathers from the rows is the first of them
-pub gathered-first : {r : ℕ} (l : List Row) → no_zero l ≡ true → r ≡ gathered 0 l → r ≡ first_of l
-gathered-first l h e = e ∙ gathers l h
-
--- the last row is gathered last: what was gathered before it, and its test
-pub last_row : (n : ℕ) {a b r : ℕ} {p q : Bool} → r ≡ next a n p → a ≡ b → p ≡ q → r ≡ next b n q
-last_row n e d f = e ∙ ap₂ (λ (x : ℕ) (y : Bool). next x n y) d f
+-- it is the last of the table
+pub ends : (n : ℕ) {k : ℕ} {p q : Bool} → k ≡ first_of (n when q ∷ []) → q ≡ p → k ≡ first_of (n when p ∷ [])
+ends n e same = rw same at e
 
 -- ---- The table in its parts.
-part : (n : ℕ) (t : Bool) (l m : List Row) → ltb 0 n ≡ true → or_else (first_of l) (first_of m) ≡ first_of (l ++ m) → or_else (first_of (n when t ∷ l)) (first_of m) ≡ first_of (n when t ∷ (l ++ m))
-unfolding or_else first_of
-part n true l m some e = rw (ne_eqb n 0 (omega (arith, ltb-true 0 n some)))
-part n false l m some e = e
+all-numbered : (l : List Row) → no_zero l ≡ true → Numbered l
+unfolding no_zero
+all-numbered [] h = none
+all-numbered (r ∷ l) h =
+    let some = ltb-true 0 r.number (and_left (ltb 0 r.number) (no_zero l) h) in
+    numbered (omega (arith, some)) (all-numbered l (and_right (ltb 0 r.number) (no_zero l) h))
 
-parts : (l m : List Row) → no_zero l ≡ true → or_else (first_of l) (first_of m) ≡ first_of (l ++ m)
-unfolding no_zero or_else first_of
-parts [] m h = refl
-parts (r ∷ l) m h = part r.number r.applies l m (and_left (ltb 0 r.number) (no_zero l) h) (parts l m (and_right (ltb 0 r.number) (no_zero l) h))
+part-stops : {k : ℕ} (l m : List Row) → no_zero l ≡ true → k ≡ first_of l → k ≢ 0 → k ≡ first_of (l ++ m)
+part-stops l m h e some = e ∙ sym (first-stays (all-numbered l h) m (λ z. some (e ∙ z)))
 
-joined : (l m : List Row) {later : ℕ} → no_zero l ≡ true → later ≡ first_of m → or_else (first_of l) later ≡ first_of (l ++ m)
-joined l m h e = ap (or_else (first_of l)) e ∙ parts l m h
+part-lets : (l m : List Row) → no_zero l ≡ true → 0 ≡ first_of l → first_of m ≡ first_of (l ++ m)
+part-lets l m h e = sym (first_past (all-numbered l h) m (sym e))
 
--- the first of the parts' firsts is the first of the table
-pub whole : {r : ℕ} (s : State) (c : Call) → r ≡ or_else (first_of (code_rows s c)) (or_else (first_of (named_rows s c)) (or_else (first_of (carried_rows s c)) (or_else (first_of (condition_rows s c)) (first_of (room_rows s c)))))
-    → r ≡ first_of (call_rows s c)
-unfolding call_rows rows_to rows_from no_zero
-whole s c e =
-    let last = condition_rows s c ++ room_rows s c in
-    let named = carried_rows s c ++ last in
-    e ∙ joined (code_rows s c) (named_rows s c ++ named) refl (joined (named_rows s c) named refl (joined (carried_rows s c) last refl (parts (condition_rows s c) (room_rows s c) refl)))
+module _ (s : State) (c : Call) where
+  abbrev from_condition : List Row
+  from_condition = condition_rows s c ++ room_rows s c
+
+  abbrev from_carried : List Row
+  from_carried = carried_rows s c ++ from_condition
+
+  abbrev from_names : List Row
+  from_names = named_rows s c ++ from_carried
+
+  -- the first of a part that gives one, where the parts before it give none
+  pub in-code : {k : ℕ} → k ≢ 0 → k ≡ first_of (code_rows s c) → k ≡ first_of (call_rows s c)
+  unfolding call_rows rows_to rows_from no_zero
+  in-code some e = part-stops (code_rows s c) from_names refl e some
+
+  past-code : 0 ≡ first_of (code_rows s c) → first_of from_names ≡ first_of (call_rows s c)
+  unfolding call_rows rows_to rows_from no_zero
+  past-code e = part-lets (code_rows s c) from_names refl e
+
+  module _ (z : 0 ≡ first_of (code_rows s c)) where
+    pub in-names : {k : ℕ} → k ≢ 0 → k ≡ first_of (named_rows s c) → k ≡ first_of (call_rows s c)
+    unfolding call_rows rows_to rows_from no_zero
+    in-names some e = part-stops (named_rows s c) from_carried refl e some ∙ past-code z
+
+    module _ (y : 0 ≡ first_of (named_rows s c)) where
+      past-names : first_of from_carried ≡ first_of (call_rows s c)
+      unfolding call_rows rows_to rows_from no_zero
+      past-names = part-lets (named_rows s c) from_carried refl y ∙ past-code z
+
+      pub in-carried : {k : ℕ} → k ≢ 0 → k ≡ first_of (carried_rows s c) → k ≡ first_of (call_rows s c)
+      unfolding call_rows rows_to rows_from no_zero
+      in-carried some e = part-stops (carried_rows s c) from_condition refl e some ∙ past-names
+
+      module _ (x : 0 ≡ first_of (carried_rows s c)) where
+        past-carried : first_of from_condition ≡ first_of (call_rows s c)
+        unfolding call_rows rows_to rows_from no_zero
+        past-carried = part-lets (carried_rows s c) from_condition refl x ∙ past-names
+
+        pub in-condition : {k : ℕ} → k ≢ 0 → k ≡ first_of (condition_rows s c) → k ≡ first_of (call_rows s c)
+        unfolding call_rows rows_to rows_from no_zero
+        in-condition some e = part-stops (condition_rows s c) (room_rows s c) refl e some ∙ past-carried
+
+        pub in-room : {k : ℕ} → 0 ≡ first_of (condition_rows s c) → k ≡ first_of (room_rows s c) → k ≡ first_of (call_rows s c)
+        unfolding call_rows rows_to rows_from no_zero
+        in-room w e = e ∙ part-lets (condition_rows s c) (room_rows s c) refl w ∙ past-carried

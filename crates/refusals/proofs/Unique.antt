@@ -2,7 +2,8 @@
 -- the source states it. An equation leaves one answer.
 use mathlib.Core.Path.{sym, ◌∙◌}
 use Rattle.words.proofs.Once.{OneAnswer}
-use Rattle.refusals.proofs.first.Reads as first
+use Rattle.image.proofs.Unique.{refused-once}
+use Rattle.refusals.proofs.check.Reads as check
 
-pub first-only : OneAnswer first.Post
-first-only κs given r s end end' p q = p ∙ sym q
+pub first-only : OneAnswer check.Post
+first-only κs given r s end end' p q = refused-once r s (p ∙ sym q)

@@ -6,13 +6,18 @@
 
 mod tests;
 
-ghost use Rattle.std.specs.Prelude.{◌≡◌};
-ghost use Rattle.words.specs.Rows.{first_of};
+ghost use Rattle.std.specs.Prelude.{[], ◌∷◌, ◌≡◌};
+ghost use Rattle.words.specs.Rows.{◌when◌, first_of};
+ghost use Rattle.answers.specs.Answer.{number, refused_by};
 ghost use Rattle.tables.specs.State.{read};
 ghost use Rattle.meaning.specs.Refusals.{call_rows};
-ghost use Rattle.refusals.specs.Next.{next, or_else};
 ghost use Rattle.refusals.specs.Parts.{code_rows, named_rows, carried_rows, condition_rows, room_rows};
 
+use answers::Refusal;
+use answers::Refusal::{
+    Amount, ChannelEmpty, ClockEnd, Count, Kind, NoCode, NoDevice, NoEvent, NoModule,
+    NoRequestBlock, NoTask, NoTaskBlock, NotHeld, PastEnd, Pending,
+};
 use calls::{Call, codes};
 use tables::Tables;
 use tests::{
@@ -20,91 +25,74 @@ use tests::{
     undefined,
 };
 
-// The first row of the table that applies to a call; 0 where none does. The rows stand in five parts, in the table's order, one row to a line.
-pub fn first(t: Tables, c: Call) -> u8
-    ensures { result ≡ first_of (call_rows (read t) c) }
+// The first row of the table that applies to a call, if one does. The rows stand in five parts, in the table's order, one row to a line.
+pub fn check(t: Tables, c: Call) -> Result<(), Refusal>
+    ensures { refused_by result ≡ first_of (call_rows (read t) c) }
 {
-    let later = or_else(by_condition(t, c), by_room(t, c));
-    let named = or_else(by_names(t, c), or_else(by_carried(t, c), later));
-    or_else(by_code(t, c), named)
+    by_code(t, c)?;
+    by_names(t, c)?;
+    by_carried(t, c)?;
+    by_condition(t, c)?;
+    by_room(t, c)
 }
 
 // The code and its caller.
-fn by_code(t: Tables, c: Call) -> u8
-    ensures { result ≡ first_of (code_rows (read t) c) }
+fn by_code(t: Tables, c: Call) -> Result<(), Refusal>
+    ensures { refused_by result ≡ first_of (code_rows (read t) c) }
 {
-    let mut r: u8 = 0;
-    r = next(r, 24, !codes::is_known(c.code));
-    r = next(r, 11, codes::needs_task(c.code) & (t.running == 0));
-    r = next(r, 25, gives_under_read(t, c.code));
-    r
+    refuse(!codes::is_known(c.code), NoCode)?;
+    refuse(codes::needs_task(c.code) & (t.running == 0), NoTask)?;
+    refuse(gives_under_read(t, c.code), Pending)
 }
 
 // What the call names.
-fn by_names(t: Tables, c: Call) -> u8
-    ensures { result ≡ first_of (named_rows (read t) c) }
+fn by_names(t: Tables, c: Call) -> Result<(), Refusal>
+    ensures { refused_by result ≡ first_of (named_rows (read t) c) }
 {
     let starts = tests::starts(c);
     let tells = either(c.code, codes::SIGNAL, codes::TEST_EVENT);
-    let mut r: u8 = 0;
-    r = next(r, 12, starts & (t.directory.modules <= c.number as u32));
-    r = next(r, 19, tells & undefined(t.directory.defined, c.number));
-    r
+    refuse(starts & (t.directory.modules <= c.number as u32), NoModule)?;
+    refuse(tells & undefined(t.directory.defined, c.number), NoEvent)
 }
 
 // What it carries.
-fn by_carried(t: Tables, c: Call) -> u8
-    ensures { result ≡ first_of (carried_rows (read t) c) }
+fn by_carried(t: Tables, c: Call) -> Result<(), Refusal>
+    ensures { refused_by result ≡ first_of (carried_rows (read t) c) }
 {
     let transfers = either(c.code, codes::READ, codes::WRITE);
-    let requests = t.requests;
-    let held = tests::held(requests, c.number, t.running);
-    let mut r: u8 = 0;
-    r = next(r, 22, transfers & (249 < c.number));
-    r = next(r, 23, transfers & bad_count(c.amount) | bad_value(c));
-    r = next(r, 18, (c.code == codes::CHECK) & !held);
-    r
+    let held = tests::held(&t.requests, c.number, t.running);
+    refuse(transfers & (249 < c.number), NoDevice)?;
+    refuse(transfers & bad_count(c.amount) | bad_value(c), Amount)?;
+    refuse((c.code == codes::CHECK) & !held, NotHeld)
 }
 
 // Its condition.
-fn by_condition(t: Tables, c: Call) -> u8
-    ensures { result ≡ first_of (condition_rows (read t) c) }
+fn by_condition(t: Tables, c: Call) -> Result<(), Refusal>
+    ensures { refused_by result ≡ first_of (condition_rows (read t) c) }
 {
     let waits = either(c.code, codes::SCHEDULE, codes::WAIT);
-    let mut r: u8 = 0;
-    r = next(r, 13, waits & bad_kind(t.directory.defined, c));
-    r = next(r, 14, waits & (c.kind == 1) & bad_events(c.value, c.events));
-    r = next(r, 15, waits & (c.kind == 3) & past_end(t.clock, c.amount));
-    r
+    let for_events = waits & (c.kind == 1);
+    let for_time = waits & (c.kind == 3);
+    refuse(waits & bad_kind(t.directory.defined, c), Kind)?;
+    refuse(for_events & bad_events(c.value, c.events), Count)?;
+    refuse(for_time & past_end(t.clock, c.amount), PastEnd)
 }
 
 // What the tables still have.
-fn by_room(t: Tables, c: Call) -> u8
-    ensures { result ≡ first_of (room_rows (read t) c) }
+fn by_room(t: Tables, c: Call) -> Result<(), Refusal>
+    ensures { refused_by result ≡ first_of (room_rows (read t) c) }
 {
     let starts = tests::starts(c);
     let transfers = either(c.code, codes::READ, codes::WRITE);
-    let mut r: u8 = 0;
-    r = next(r, 16, starts & (t.free_tasks == 0));
-    r = next(r, 17, transfers & (t.free_requests == 0));
-    r = next(r, 20, (c.code == codes::IO_DONE) & (t.channel == 0));
-    r = next(r, 21, (c.code == codes::TIMER) & (t.clock == CLOCK_END));
-    r
+    refuse(starts & (t.free_tasks == 0), NoTaskBlock)?;
+    refuse(transfers & (t.free_requests == 0), NoRequestBlock)?;
+    refuse((c.code == codes::IO_DONE) & (t.channel == 0), ChannelEmpty)?;
+    refuse((c.code == codes::TIMER) & (t.clock == CLOCK_END), ClockEnd)
 }
 
-// The first so far, and where there is none what is found later.
-fn or_else(first: u8, later: u8) -> u8
-    ensures { result ≡ or_else first later }
+// One row: the refusal, where it applies.
+fn refuse(applies: bool, by: Refusal) -> Result<(), Refusal>
+    ensures { refused_by result ≡ first_of (number by when applies ∷ []) }
 {
-    if first == 0 { later } else { first }
-}
-
-// The first row so far, with one row more.
-fn next(first: u8, number: u8, applies: bool) -> u8
-    ensures { result ≡ next first number applies }
-{
-    if first != 0 {
-        return first;
-    }
-    if applies { number } else { 0 }
+    if applies { Err(by) } else { Ok(()) }
 }

@@ -10,10 +10,12 @@ ghost use Rattle.meaning.specs.Refusals.{starts, bad_count, clock_end};
 
 use blocks::pending;
 use calls::{Call, codes};
+use tables::names::FREE;
 use tables::{Request, Tables};
+use words::sets;
 
 // The clock's end.
-pub const CLOCK_END: u32 = 4294967295;
+pub const CLOCK_END: u32 = u32::MAX;
 
 // The code is one of two.
 pub fn either(code: u8, a: u8, b: u8) -> bool
@@ -43,7 +45,7 @@ pub fn starts(c: Call) -> bool
 pub fn undefined(defined: u64, event: u8) -> bool
     ensures { result ≡ (ltb 63 event || not (has defined event)) }
 {
-    (63 < event) | !words::sets64::has(defined, event as u32)
+    (63 < event) | !sets::has(defined, event as u32)
 }
 
 // "byte count 0 or above 65,535"
@@ -60,15 +62,14 @@ pub fn bad_value(c: Call) -> bool
     (c.code == codes::SIGNAL) & (1 < c.value)
 }
 
-// A request block that is held by the caller. A number above 16 names none.
-pub fn held(requests: [Request; 17], number: u8, caller: u8) -> bool
-    ensures { result ≡ (not (eqb (get_or requests number no_request).place Free) && eqb (get_or requests number no_request).owner caller) }
+// A request block that is held by the caller. A number past the last names none.
+pub fn held(requests: &[Request], number: u8, caller: u8) -> bool
+    ensures { result ≡ (not (eqb (get_or requests.now number no_request).place Free) && eqb (get_or requests.now number no_request).owner caller) }
 {
-    if 16 < number {
-        return false;
+    match requests.get(number as usize) {
+        Some(block) => (block.place != FREE) & (block.owner == caller),
+        None => false,
     }
-    let block = requests[number as usize];
-    (block.place != 0) & (block.owner == caller)
 }
 
 // "kind not 0 to 3, or 0 for WAIT; or kind 1 with an undefined event in the set"
@@ -84,12 +85,12 @@ pub fn bad_kind(defined: u64, c: Call) -> bool
 pub fn bad_events(count: u8, events: u64) -> bool
     ensures { result ≡ (eqb count 0 || ltb (size events) count) }
 {
-    (count == 0) | (words::sets64::ones(events) < count as u32)
+    (count == 0) | (sets::ones(events) < count as u32)
 }
 
 // "clock plus interval passes the clock's end"
 pub fn past_end(clock: u32, interval: u32) -> bool
     ensures { result ≡ ltb clock_end (clock + interval) }
 {
-    (CLOCK_END as u64) < clock as u64 + interval as u64
+    clock.checked_add(interval).is_none()
 }

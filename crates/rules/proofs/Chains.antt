@@ -1,13 +1,11 @@
 -- Chains of parents: m steps up and n more are m + n, and above none is none. So a walk up from a task, which ends at none or after 24 steps, tells whether
 -- 24 steps come to none.
-use mathlib.Core.Bool.{true, false, not, ◌&&◌}
+use mathlib.Core.Bool.{true}
 use mathlib.Core.Path.{◌≡◌, refl, sym, ap, ◌∙◌}
-use mathlib.Core.Logic.{⊎_elim}
 use Prim.Native.Nat.{ℕ, zero, suc, ◌+◌, ◌-◌, ◌≤◌, ◌<◌}
 use native.Mathlib.Omega.{arith}
-use lib.Dec.{eqb, ltb}
-use borrow.Author.Tests.{eq-eqb, ltb-false, ltb-true}
-use Rattle.words.proofs.Truth.{tested, both}
+use lib.Dec.{eqb}
+use borrow.Author.Tests.{eq-eqb}
 use Rattle.tables.specs.State.{State, task_at}
 use Rattle.meaning.specs.Rules.{upward}
 use Rattle.tables.specs.Blocks.{task_blocks}
@@ -17,10 +15,6 @@ pub record Above (s : State) (k n y : ℕ) : Type 0 where
   pub at : y ≡ upward s n k
   pub steps : n ≤ task_blocks
   pub low : y ≤ task_blocks
-
--- a step more is done
-pub steps-left : (y n : ℕ) → (not (eqb y 0) && ltb n 24) ≡ true → n < 24
-steps-left y n e = ltb-true n 24 (both (not (eqb y 0)) (ltb n 24) e).1
 
 module _ (s : State) where
   upward-add : (m n k : ℕ) → upward s n (upward s m k) ≡ upward s (m + n) k
@@ -38,21 +32,13 @@ module _ (s : State) where
   above-start k h = record { at = refl; steps = omega arith; low = h }
 
   module _ {k n y : ℕ} (a : Above s k n y) where
-    pub above-next : (not (eqb y 0) && ltb n 24) ≡ true → (task_at s y).parent ≤ task_blocks → Above s k (n + 1) (task_at s y).parent
+    pub above-next : n < 24 → (task_at s y).parent ≤ task_blocks → Above s k (n + 1) (task_at s y).parent
     unfolding upward
-    above-next e h =
-        record {
-          at = ap (λ (z : ℕ). (task_at s z).parent) a.at ∙ upward-add n 1 k;
-          steps = omega (arith, steps-left y n e);
-          low = h;
-        }
+    above-next l h =
+        record { at = ap (λ (z : ℕ). (task_at s z).parent) a.at ∙ upward-add n 1 k; steps = omega arith; low = h }
 
-    pub above-end : (task_at s 0).parent ≡ 0 → (not (eqb y 0) && ltb n 24) ≡ false → eqb y 0 ≡ eqb (upward s 24 k) 0
-    above-end none e =
+    pub above-none : (task_at s 0).parent ≡ 0 → y ≡ 0 → true ≡ eqb (upward s 24 k) 0
+    above-none none z =
         let all : n + (24 - n) ≡ 24 = omega (arith, a.steps) in
         let rest : upward s (24 - n) y ≡ upward s 24 k = rw a.at (rw all at (upward-add n (24 - n) k)) in
-        ⊎_elim (λ z. rw z.0 (sym (eq-eqb (upward s 24 k) 0 (sym rest ∙ ap (upward s (24 - n)) z.1 ∙ upward-none none (24 - n)))))
-        (λ z.
-        let over : n ≡ 24 = omega (arith, ltb-false n 24 (rw z.0 at e), a.steps) in
-        ap (λ (x : ℕ). eqb x 0) (a.at ∙ ap (λ (m : ℕ). upward s m k) over))
-        (tested y 0)
+        sym (eq-eqb (upward s 24 k) 0 (sym rest ∙ ap (upward s (24 - n)) z ∙ upward-none none (24 - n)))

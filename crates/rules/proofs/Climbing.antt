@@ -1,27 +1,22 @@
--- A queue's order, told along the queue: what is left of it goes up from the least that is still allowed. The invariant of the two loops that go along a
+-- A queue's order, told along the queue: what is left of it goes up from the least that is still allowed. The invariant of the loop that goes along a
 -- queue.
 use mathlib.Core.Bool.{Bool, true, ◌&&◌}
 use mathlib.Core.Path.{◌≡◌, refl, sym, ap, ◌∙◌}
 use mathlib.Core.Logic.{◌≢◌}
 use mathlib.Core.List.{List, [], ◌∷◌, ◌++◌, tail}
-use Prim.Native.Nat.{ℕ, ◌-◌, ◌≤◌, ◌<◌}
+use Prim.Native.Nat.{ℕ, ◌≤◌, ◌<◌}
 use native.Mathlib.Omega.{arith}
 use lib.ListN.{length, get_or}
 use lib.Dec.{leb}
 use borrow.Author.Tests.{le-leb}
 use Rattle.threads.specs.declared.Threads.{Threads}
-use Rattle.threads.specs.Threads.{hd, count, walk, queue_in, queues_of, Sound, BLOCKS, QUEUES}
+use Rattle.threads.specs.Threads.{hd, count, walk, queue_in, queues_of, Sound, QUEUES}
 use Rattle.threads.proofs.Laws.{member}
 use Rattle.threads.proofs.Read.{first_of}
 use Rattle.threads.proofs.Lists.{count-append}
 use Rattle.threads.proofs.Walk.{opened, closed, at_next, at_split, at-member, at_less}
 use Rattle.words.specs.Words.{up_by}
 use Rattle.words.proofs.Truth.{and_assoc, and-true}
-use Rattle.rules.proofs.Places.{tasks-of, requests-of, owner-low, module-low}
-use Rattle.rules.specs.Orderly.{Orderly}
-use Rattle.tables.specs.declared.Tables.{Tables}
-use Rattle.tables.specs.State.{task_at, request_at, read}
-use Rattle.tables.specs.Blocks.{task_blocks}
 
 -- the list goes up by `key`, and from `least` on
 unfoldable pub up_from : (ℕ → ℕ) → ℕ → List ℕ → Bool
@@ -80,18 +75,3 @@ module _ {t : Threads} (s : Sound t) (key : ℕ → ℕ) (q : ℕ) (h : q < QUEU
         (λ x k. (member (queues_of t) s.apart q h x (omega (arith, ap (count x) c.split, count-append x c.front c.rest))).0)
         (sym c.at ∙ z) in
         sym (and-true right) ∙ ap (λ (l : List ℕ). right && up_from key least l) (sym none) ∙ c.same
-
--- ---- of orderly tables: what stands at a turn is a task block of the time queue, or a request block of the channel queue
-
-module _ {t : Tables} (o : Orderly t) {key : ℕ → ℕ} {y least : ℕ} {right : Bool} where
-  pub time-low : Climbing t.threads key 7 y least right → y ≢ 0 → y ≤ task_blocks
-  time-low c n = (tasks-of t o 7 y (omega arith) (climbing-member o.sound key 7 (omega arith) c n)).1
-
-  pub channel-low : Climbing t.threads key 8 y least right → y ≢ 0 → (25 ≤ y) × (y ≤ BLOCKS)
-  channel-low c n = requests-of t o y (climbing-member o.sound key 8 (omega arith) c n)
-
-  pub asker-low : Climbing t.threads key 8 y least right → y ≢ 0 → (request_at (read t) (y - 24)).owner ≤ task_blocks
-  asker-low c n = let i = channel-low c n in owner-low t o (y - 24) (omega arith) (omega arith)
-
-  pub asker-module : Climbing t.threads key 8 y least right → y ≢ 0 → (task_at (read t) (request_at (read t) (y - 24)).owner).program < 32
-  asker-module c n = module-low t o (request_at (read t) (y - 24)).owner (asker-low c n)

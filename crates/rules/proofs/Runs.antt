@@ -3,9 +3,8 @@ use mathlib.Core.Bool.{Bool, false, ◌&&◌}
 use mathlib.Core.Path.{◌≡◌, refl, sym, ap, ap₂, ◌∙◌}
 use mathlib.Core.Logic.{◌≢◌, ⊎_elim}
 use mathlib.Core.List.{List}
-use Prim.Native.Nat.{ℕ, ◌+◌, ◌≤◌, ◌<◌}
+use Prim.Native.Nat.{ℕ, ◌+◌, ◌-◌, ◌≤◌, ◌<◌}
 use native.Mathlib.Omega.{arith}
-use lib.Bits.{bit_and, bit_or}
 use lib.Dec.{eqb, leb}
 use lib.ListN.{set, get_or, replicate, length-set, get_or-replicate}
 use lib.Seq.{get_or-set_same, get_or-set_other}
@@ -21,19 +20,19 @@ use Rattle.tables.specs.declared.Tables.{Tables}
 use Rattle.tables.specs.State.{State, task_at, pool_at, level_of, units_of, read}
 use Rattle.meaning.specs.Rules.{holds_unit, core_held}
 use Rattle.rules.specs.Orderly.{Orderly}
-use Rattle.rules.specs.Links.{Tally, Exact, Counted}
+use Rattle.rules.specs.declared.links.Met.{Met}
+use Rattle.rules.specs.Links.{Tally, Exact, Counted, with_set, none_met}
 use Rattle.rules.proofs.Firsts.{three}
 use Rattle.rules.proofs.Places.{run_fits, level-fits}
 use Rattle.rules.proofs.Tally.{met, met-none, tally-start, tally-next, tally-past, tally-end}
 use Rattle.tables.specs.Blocks.{task_blocks}
 
-none : (level : ℕ) → level < 4 → ◌≡◌ {A = ℕ} (get_or (replicate 4 0) level 0) 0
-none level h = get_or-replicate 4 level 0 0 h
+none : (level : ℕ) → level < 4 → get_or (replicate 4 none_met) level none_met ≡ none_met
+none level h = get_or-replicate 4 level none_met none_met h
 
 module _ (s : State) where
-  pub counted_start : Counted s 0 (replicate 4 0) (replicate 4 0)
-  counted_start =
-      record { ones = refl; twos = refl; tally = λ level h. rw (none level h) tally-start }
+  pub counted_start : Counted s 0 (replicate 4 none_met)
+  counted_start = record { many = refl; tally = λ level h. rw (none level h) tally-start }
 
   holds_not : (level u k : ℕ) → (task_at s k).core ≢ 1 → holds_unit s level u k ≡ false
   unfolding holds_unit
@@ -47,32 +46,45 @@ module _ (s : State) where
   unfolding holds_unit
   holds_has level u k e n = rw (eq-eqb (task_at s k).core 1 e, eq-eqb (level_of s k) level n) (has-run (task_at s k).start (units_of s k) u)
 
-  module _ {k : ℕ} {one two : List ℕ} (c : Counted s k one two) where
+  module _ {k : ℕ} {runs : List Met} (c : Counted s k runs) where
     -- a task that holds no run
-    pub counted-past : (task_at s (k + 1)).core ≢ 1 → Counted s (k + 1) one two
+    counted-past : (task_at s (k + 1)).core ≢ 1 → Counted s (k + 1) runs
     counted-past n =
-        record { ones = c.ones; twos = c.twos; tally = λ level h. tally-past (c.tally level h) (λ u. holds_not level u (k + 1) n) }
+        record { many = c.many; tally = λ level h. tally-past (c.tally level h) (λ u. holds_not level u (k + 1) n) }
 
     -- a task that holds the run m, of the level l
-    pub counted_next : {m l : ℕ} → (task_at s (k + 1)).core ≡ 1 → l ≡ level_of s (k + 1) → l < 4
-        → m ≡ run (task_at s (k + 1)).start (units_of s (k + 1))
-        → Counted s (k + 1) (set one l (bit_or (get_or one l 0) m)) (set two l (bit_or (get_or two l 0) (bit_and (get_or one l 0) m)))
-    counted_next {m} {l} e f low g =
-        let x = bit_or (get_or one l 0) m in
-        let y = bit_or (get_or two l 0) (bit_and (get_or one l 0) m) in
+    counted_next : {l : ℕ} {x : Met} (m : ℕ) → (task_at s (k + 1)).core ≡ 1 → l ≡ level_of s (k + 1) → l < 4
+        → m ≡ run (task_at s (k + 1)).start (units_of s (k + 1)) → x ≡ with_set (get_or runs l none_met) m
+        → Counted s (k + 1) (set runs l x)
+    counted_next {l} {x} m e f low g w =
         record {
-          ones = length-set one l x ∙ c.ones;
-          twos = length-set two l y ∙ c.twos;
+          many = length-set runs l x ∙ c.many;
           tally = λ level h.
               ⊎_elim
               (λ z.
-              rw (← z.1, get_or-set_same one l x 0 (omega (arith, c.ones)), get_or-set_same two l y 0 (omega (arith, c.twos)))
+              rw (← z.1, get_or-set_same runs l x none_met (omega (arith, c.many)), w)
               (tally-next (c.tally l low) m (λ u. ap (λ (w : ℕ). has w u) g ∙ holds_has l u (k + 1) e (sym f))))
               (λ z.
-              rw (get_or-set_other one l level x 0 (λ w. z.1 (sym w)), get_or-set_other two l level y 0 (λ w. z.1 (sym w)))
+              rw (get_or-set_other runs l level x none_met (λ w. z.1 (sym w)))
               (tally-past (c.tally level h) (λ u. holds-else level u (k + 1) e (λ w. z.1 (f ∙ w)))))
               (tested l level);
         }
+
+  -- the same of the task k, after those below it
+  module _ (k : ℕ) (h : 1 ≤ k) {runs : List Met} (c : Counted s (k - 1) runs) where
+    again : k - 1 + 1 ≡ k
+    again = omega arith
+
+    pub run-past : (task_at s k).core ≢ 1 → Counted s k runs
+    run-past n = rw again at (counted-past c (rw again n))
+
+    pub run_next : {l : ℕ} {x : Met} (m : ℕ) → (task_at s k).core ≡ 1 → l ≡ level_of s k → l < 4 → m ≡ run (task_at s k).start (units_of s k)
+        → x ≡ with_set (get_or runs l none_met) m → Counted s k (set runs l x)
+    run_next m e f low g w = rw again at (counted_next c m (rw again e) (rw again f) low (rw again g) w)
+
+-- what a level met
+abbrev pub met_of : List Met → ℕ → Met
+met_of runs level = get_or runs level none_met
 
 module _ (t : Tables) (o : Orderly t) where
   abbrev s : State
@@ -104,8 +116,8 @@ module _ (t : Tables) (o : Orderly t) where
       (λ l. met-none (holds_unit s level) 24 (pool_at s level) u (high level u l) (has_above 64 (pool_at s level) u x.low l)) (under-or-from u 64))
       (λ f. all_shown (held_at level) 64 (λ u l. f u))
 
-  pub counted-end : {one two : List ℕ} {a b c : Bool} → Counted s 24 one two → Exact (get_or one 1 0) (get_or two 1 0) (pool_at s 1) a
-      → Exact (get_or one 2 0) (get_or two 2 0) (pool_at s 2) b → Exact (get_or one 3 0) (get_or two 3 0) (pool_at s 3) c → (a && b && c) ≡ core_held s
+  pub counted-end : {runs : List Met} {a b c : Bool} → Counted s 24 runs → Exact (met_of runs 1).once (met_of runs 1).twice (pool_at s 1) a
+      → Exact (met_of runs 2).once (met_of runs 2).twice (pool_at s 2) b → Exact (met_of runs 3).once (met_of runs 3).twice (pool_at s 3) c → (a && b && c) ≡ core_held s
   unfolding core_held all_of one_to
   counted-end n x y z =
       let p : ℕ → Bool = λ level. all_of (held_at level) (below 64) in

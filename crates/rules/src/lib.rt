@@ -14,9 +14,9 @@ ghost use Rattle.rules.specs.Orderly.{Orderly, second_pass};
 use tables::Tables;
 
 // What goes over several blocks: core, chains of parents, queues.
-fn second_pass(t: Tables) -> bool
-    requires { Orderly t }
-    ensures { result ≡ second_pass (read t) }
+fn second_pass(t: &Tables) -> bool
+    requires { Orderly t.now }
+    ensures { result ≡ second_pass (read t.now) }
 {
     links::links_right(t) & queues::queues_right(t)
 }
@@ -25,14 +25,8 @@ fn second_pass(t: Tables) -> bool
 pub fn holds(t: Tables) -> bool
     ensures { result ≡ rules_hold t }
 {
-    let threads = t.threads;
-    let walk = pointers::walked(threads);
-    if !walk.sound {
+    let Some(marks) = pointers::walked(t.threads) else {
         return false;
-    }
-    let marks = walk.marks;
-    if !fields::first_pass(t, marks) {
-        return false;
-    }
-    second_pass(t)
+    };
+    fields::first_pass(t, marks) && second_pass(&t)
 }

@@ -1,10 +1,9 @@
 -- Laws of granting core and of getting ready, case by case.
-use Rattle.std.specs.Prelude.{◌≡◌, ℕ, ◌+◌, ◌<◌, Bool, true, false, cond, ◌&&◌, eqb, ltb}
+use Rattle.std.specs.Prelude.{Some, None, ◌≡◌, ℕ, ◌+◌, ◌<◌, Bool, true, false, cond, ◌&&◌, eqb, ltb}
 use mathlib.Core.Path.{refl, sym, ap, ap₂, ◌∙◌}
 use native.Mathlib.Omega.{arith}
 use Rattle.threads.specs.Threads.{counts}
 use Rattle.words.specs.Words.{is_empty}
-use Rattle.pools.specs.declared.Found.TheVariants.{At, Nowhere}
 use Rattle.pools.specs.Pools.{run, start_of}
 use Rattle.pools.specs.Runs.{FreeRun}
 use Rattle.pools.specs.Find.{found_of}
@@ -24,11 +23,11 @@ module _ (s : State) (k : ℕ) {e : Entry} (h : e ≡ entry_for s k) where
   needs-as f = sym (f ∙ ap (λ (x : Entry). ltb 0 x.units && eqb (task_at s k).core NotGranted) h)
 
   -- a seat is the start that the meaning gives
-  pub seat-start : {a : ℕ} → seat_of s e.level e.units ≡ At a → (a ≡ start_for s k) × (a < 64)
+  pub seat-start : {a : ℕ} → seat_of s e.level e.units ≡ Some a → (a ≡ start_for s k) × (a < 64)
   unfolding start_for seat_of
   seat-start {a} f = go (is_empty (queue s (core_queue (level_of s k)))) (rw h at f)
     where
-      go : (b : Bool) → cond b (found_of s.holes (pool_at s (level_of s k)) (units_of s k)) Nowhere ≡ At a
+      go : (b : Bool) → cond b (found_of s.holes (pool_at s (level_of s k)) (units_of s k)) None ≡ Some a
           → (a ≡ start_of s.holes (pool_at s (level_of s k)) (units_of s k)) × (a < 64)
       go true g = let f = at-start s.holes (pool_at s (level_of s k)) (units_of s k) a g in (sym f.0, f.1)
       go false g = let y : ◌≡◌ {A = ℕ} 0 1 = cc in absurd (omega arith)
@@ -37,20 +36,20 @@ module _ (s : State) (k : ℕ) {e : Entry} (h : e ≡ entry_for s k) where
   unfolding made_ready readied
   ready-now n = rw (n, h)
 
-  pub ready-later : needs_core s k ≡ true → seat_of s e.level e.units ≡ Nowhere → made_ready s k ≡ joining (placed s k InCore) (core_queue e.level) k
+  pub ready-later : needs_core s k ≡ true → seat_of s e.level e.units ≡ None → made_ready s k ≡ joining (placed s k InCore) (core_queue e.level) k
   unfolding made_ready awaits_core seat_of fits
   ready-later n f = rw h (go (is_empty (queue s (core_queue (level_of s k)))) refl (rw h at f))
     where
-      go : (b : Bool) → is_empty (queue s (core_queue (level_of s k))) ≡ b → cond b (found_of s.holes (pool_at s (level_of s k)) (units_of s k)) Nowhere ≡ Nowhere
+      go : (b : Bool) → is_empty (queue s (core_queue (level_of s k))) ≡ b → cond b (found_of s.holes (pool_at s (level_of s k)) (units_of s k)) None ≡ None
           → made_ready s k ≡ joining (placed s k InCore) (core_queue (level_of s k)) k
       go true q g = rw (n, q, nowhere-long s.holes (pool_at s (level_of s k)) (units_of s k) g)
       go false q g = rw (n, q)
 
-  pub ready-seated : {a : ℕ} → needs_core s k ≡ true → seat_of s e.level e.units ≡ At a → made_ready s k ≡ joining (placed (given_run s k) k Ready) e.level k
+  pub ready-seated : {a : ℕ} → needs_core s k ≡ true → seat_of s e.level e.units ≡ Some a → made_ready s k ≡ joining (placed (given_run s k) k Ready) e.level k
   unfolding made_ready readied seat_of fits
   ready-seated {a} n f = rw h (go (is_empty (queue s (core_queue (level_of s k)))) refl (rw h at f))
     where
-      go : (b : Bool) → is_empty (queue s (core_queue (level_of s k))) ≡ b → cond b (found_of s.holes (pool_at s (level_of s k)) (units_of s k)) Nowhere ≡ At a
+      go : (b : Bool) → is_empty (queue s (core_queue (level_of s k))) ≡ b → cond b (found_of s.holes (pool_at s (level_of s k)) (units_of s k)) None ≡ Some a
           → made_ready s k ≡ joining (placed (given_run s k) k Ready) (level_of s k) k
       go true q g = rw (n, q, at_long s.holes (pool_at s (level_of s k)) (units_of s k) a g, given-level s k)
       go false q g = let y : ◌≡◌ {A = ℕ} 0 1 = cc in absurd (omega arith)

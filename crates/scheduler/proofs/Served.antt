@@ -1,5 +1,5 @@
 -- Laws of serving a core queue: what seating the first of it leaves, and the loop's invariant, `Turn`.
-use Rattle.std.specs.Prelude.{◌≡◌, ℕ, ◌<◌, ◌≤◌, true, false, ◌≢◌, List, [], ◌∷◌, length}
+use Rattle.std.specs.Prelude.{Some, None, ◌≡◌, ℕ, ◌<◌, ◌≤◌, true, false, ◌≢◌, List, [], ◌∷◌, length}
 use mathlib.Core.Path.{refl, sym, ap, ap₂, ◌∙◌}
 use mathlib.Core.List.{tail}
 use native.Mathlib.Omega.{arith}
@@ -15,7 +15,6 @@ use Rattle.tables.specs.Blocks.{Ready, no_task}
 use Rattle.tables.specs.State.{State, core_queue, task_at, pool_at, queue, level_of, units_of, joining, leaving, read}
 use Rattle.tables.specs.Held.{Shows}
 use Rattle.meaning.specs.Ready.{placed, start_for, fits, given_run, readied, seated, serving, served}
-use Rattle.pools.specs.declared.Found.TheVariants.{At, Nowhere}
 use Rattle.pools.specs.Pools.{long_enough, start_of}
 use Rattle.pools.specs.Find.{found_of}
 use Rattle.pools.proofs.Starts.{at-start, at_long, nowhere-long}
@@ -123,7 +122,7 @@ module _ {t : Tables} {level : ℕ} {u : Tables} {k : ℕ} (i : Turn t level u k
     turn-member = first_member i.sound (omega (arith, i.waiters.worst)) i.first n
 
     -- what the search gives is the start of the first
-    pub turn_at : {m a : ℕ} → m ≡ units_of (read u) k → found_of u.holes (pool_at (read u) level) m ≡ At a → (a ≡ start_for (read u) k) × (a < 64)
+    pub turn_at : {m a : ℕ} → m ≡ units_of (read u) k → found_of u.holes (pool_at (read u) level) m ≡ Some a → (a ≡ start_for (read u) k) × (a < 64)
     unfolding start_for
     turn_at {m} {a} e f =
         let h = at-start u.holes (pool_at (read u) level) m a f in
@@ -134,13 +133,13 @@ module _ {t : Tables} {level : ℕ} {u : Tables} {k : ℕ} (i : Turn t level u k
     unfolding fits
     turn-long {m} e = ap₂ (λ (x y : ℕ). long_enough (pool_at (read u) x) y) turn-waiter.own (sym e)
 
-    pub turn-fits : {m a : ℕ} → m ≡ units_of (read u) k → found_of u.holes (pool_at (read u) level) m ≡ At a → fits (read u) k ≡ true
+    pub turn-fits : {m a : ℕ} → m ≡ units_of (read u) k → found_of u.holes (pool_at (read u) level) m ≡ Some a → fits (read u) k ≡ true
     turn-fits {m} {a} e f = turn-long e ∙ at_long u.holes (pool_at (read u) level) m a f
 
-    turn-full : {m : ℕ} → m ≡ units_of (read u) k → found_of u.holes (pool_at (read u) level) m ≡ Nowhere → fits (read u) k ≡ false
+    turn-full : {m : ℕ} → m ≡ units_of (read u) k → found_of u.holes (pool_at (read u) level) m ≡ None → fits (read u) k ≡ false
     turn-full {m} e f = turn-long e ∙ nowhere-long u.holes (pool_at (read u) level) m f
 
-    pub turn-stop : {m : ℕ} → m ≡ units_of (read u) k → found_of u.holes (pool_at (read u) level) m ≡ Nowhere → Shows u (served (read t) level)
+    pub turn-stop : {m : ℕ} → m ≡ units_of (read u) k → found_of u.holes (pool_at (read u) level) m ≡ None → Shows u (served (read t) level)
     turn-stop e f = record { sound = i.sound; reads = sym (stops (read u) level k _ nine i.waiters split (turn-full e f)) ∙ i.same }
 
     module _ {v : Tables} (h : Shows v (seated (read u) (core_queue level) k)) where

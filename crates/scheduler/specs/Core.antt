@@ -1,9 +1,8 @@
 -- Where a newcomer gets its core; what granting core, serving a core queue and giving core back ask.
 use Rattle.std.specs.Prelude.{if◌then◌else◌}
-use Rattle.std.specs.Prelude.{◌≡◌, ℕ, suc, ◌<◌, ◌≤◌}
+use Rattle.std.specs.Prelude.{◌≡◌, ℕ, suc, ◌<◌, ◌≤◌, Option}
 use Rattle.threads.specs.Threads.{count, Member}
 use Rattle.words.specs.Words.{is_empty}
-use Rattle.pools.specs.declared.Found.{Found}
 use Rattle.pools.specs.Find.{found_at, found_of}
 use Rattle.pools.specs.Runs.{HeldRun}
 use Rattle.tables.specs.declared.Tables.{Tables}
@@ -12,7 +11,7 @@ use Rattle.tables.specs.State.{State, core_queue, task_at, pool_at, queue, level
 use Rattle.meaning.specs.Ready.{start_for}
 
 -- "when that queue isn't empty or no free run is long enough": nowhere
-unfoldable pub seat_of : State → ℕ → ℕ → Found
+unfoldable pub seat_of : State → ℕ → ℕ → Option ℕ
 seat_of s level n = if is_empty (queue s (core_queue level)) then found_of s.holes (pool_at s level) n else found_at 64
 
 -- the task k can be given n units of the level's core from a on: they are its own number, and a is the start that the rule of the tables gives

@@ -7,8 +7,7 @@ ghost use Rattle.tables.specs.Held.{Shows};
 ghost use Rattle.meaning.specs.Ready.{given_run};
 ghost use Rattle.scheduler.specs.Core.{seat_of, Granting};
 
-use pools::Found;
-use tables::names::{LEVELS, NOT_GRANTED};
+use tables::names::{HOLDS_RUN, LEVELS, NOT_GRANTED};
 use tables::{Tables, Task};
 
 // A task of a module of n units still needs core.
@@ -19,12 +18,12 @@ pub fn needs(task: Task, n: u8) -> bool
 }
 
 // The start at which a newcomer gets n units of the level: nowhere behind others that wait.
-pub fn seat(t: Tables, level: u8, n: u8) -> Found
+pub fn seat(t: Tables, level: u8, n: u8) -> Option<u8>
     requires { Sound t.threads × (level ≤ 3) }
     ensures { result ≡ seat_of (read t) level n }
 {
     if blocks::first_of(t, level + LEVELS) != 0 {
-        return Found::Nowhere;
+        return None;
     }
     pools::find(t.holes, t.pools[level as usize], n)
 }
@@ -35,11 +34,11 @@ pub fn grant(t: Tables, k: u8, level: u8, n: u8, a: u8) -> Tables
     ensures { Shows result (given_run (read t) k) }
 {
     let mut r = t;
-    let p = pools::grant(r.pools[level as usize], a, n);
-    let mut x = r.tasks[k as usize];
-    x.core = 1;
-    x.start = a;
-    r.tasks[k as usize] = x;
-    r.pools[level as usize] = p;
+    r.pools[level as usize] = pools::grant(r.pools[level as usize], a, n);
+    r.tasks[k as usize] = Task {
+        core: HOLDS_RUN,
+        start: a,
+        ..r.tasks[k as usize]
+    };
     r
 }

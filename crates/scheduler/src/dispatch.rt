@@ -6,21 +6,17 @@ ghost use Rattle.tables.specs.Held.{Held, Shows};
 ghost use Rattle.meaning.specs.Ready.{best_ready, runs_first, dispatched};
 
 use tables::Tables;
-use tables::names::RUNNING;
+use tables::names::{LEVELS, RUNNING};
 
-// The best level that has a ready task, or 0.
+// The best level that has a ready task, or 0: level 0 is no level, as in the tables.
 pub fn best_ready(t: Tables) -> u8
     requires { Held t }
     ensures { result ≡ best_ready (read t) }
 {
-    if blocks::first_of(t, 1) != 0 {
-        return 1;
-    }
-    if blocks::first_of(t, 2) != 0 {
-        return 2;
-    }
-    if blocks::first_of(t, 3) != 0 {
-        return 3;
+    for level in 1..=LEVELS {
+        if blocks::first_of(t, level) != 0 {
+            return level;
+        }
     }
     0
 }
@@ -32,8 +28,7 @@ pub fn run_first(t: Tables, level: u8) -> Tables
 {
     let k = blocks::first_of(t, level);
     let mut r = blocks::leave(t, level, k);
-    let x = blocks::moving(r.clock, r.tasks[k as usize], RUNNING);
-    r.tasks[k as usize] = x;
+    r.tasks[k as usize] = blocks::moving(r.clock, r.tasks[k as usize], RUNNING);
     r.running = k;
     r
 }

@@ -6,7 +6,6 @@ ghost use Rattle.tables.specs.Held.{Loose, Shows};
 ghost use Rattle.meaning.specs.Ready.{placed, made_ready};
 
 use crate::core_units;
-use pools::Found;
 use tables::Tables;
 use tables::names::{IN_CORE, LEVELS, READY};
 
@@ -30,8 +29,7 @@ pub fn make_ready(t: Tables, k: u8) -> Tables
     if !core_units::needs(t.tasks[k as usize], n) {
         return put_in(t, level, READY, k);
     }
-    let seat = core_units::seat(t, level, n);
-    let Found::At(a) = seat else {
+    let Some(a) = core_units::seat(t, level, n) else {
         return put_in(t, level + LEVELS, IN_CORE, k);
     };
     let u = core_units::grant(t, k, level, n, a);

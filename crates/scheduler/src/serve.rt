@@ -9,9 +9,8 @@ ghost use Rattle.meaning.specs.Finish.{unseated, given_back};
 ghost use Rattle.scheduler.specs.Core.{Waiters, Seating, Holder};
 
 use crate::{core_units, ready};
-use pools::Found;
-use tables::Tables;
 use tables::names::{GAVE_BACK, HOLDS_RUN, LEVELS, READY};
+use tables::{Tables, Task};
 
 // The first of the level's core queue is granted its units and is ready.
 pub fn serve_one(t: Tables, level: u8, k: u8, n: u8, a: u8) -> Tables
@@ -23,7 +22,8 @@ pub fn serve_one(t: Tables, level: u8, k: u8, n: u8, a: u8) -> Tables
     ready::put_in(u, level, READY, k)
 }
 
-// The level's core queue is served from the front, up to the first that does not fit.
+// The level's core queue is served from the front, up to the first that does not fit. A `while`: each turn asks for the first again, since serving changes
+// the queue.
 pub fn serve(t: Tables, level: u8) -> Tables
     requires { Sound t.threads × Waiters (read t) level }
     ensures { Shows result (served (read t) level) }
@@ -34,8 +34,7 @@ pub fn serve(t: Tables, level: u8) -> Tables
     while k != 0 {
         let e = blocks::entry_of(u, k);
         let n = e.units;
-        let found = pools::find(u.holes, u.pools[level as usize], n);
-        let Found::At(a) = found else {
+        let Some(a) = pools::find(u.holes, u.pools[level as usize], n) else {
             return u;
         };
         u = serve_one(u, level, k, n, a);
@@ -51,12 +50,13 @@ fn unseat(t: Tables, k: u8) -> Tables
 {
     let mut r = t;
     let e = blocks::entry_of(t, k);
-    let mut x = r.tasks[k as usize];
-    let p = pools::give_back(r.pools[e.level as usize], x.start, e.units);
-    x.core = GAVE_BACK;
-    x.start = 0;
-    r.tasks[k as usize] = x;
-    r.pools[e.level as usize] = p;
+    let x = r.tasks[k as usize];
+    r.pools[e.level as usize] = pools::give_back(r.pools[e.level as usize], x.start, e.units);
+    r.tasks[k as usize] = Task {
+        core: GAVE_BACK,
+        start: 0,
+        ..x
+    };
     r
 }
 

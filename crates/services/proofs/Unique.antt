@@ -3,7 +3,7 @@
 use mathlib.Core.Path.{sym, ◌∙◌}
 use Rattle.words.proofs.Once.{OneAnswer}
 use Rattle.tables.proofs.Held.{shown-once}
-use Rattle.meaning.proofs.Once.{gives-once}
+use Rattle.meaning.proofs.Once.{gives-once, stepped-once}
 use Rattle.services.proofs.call.call.Reads as call
 use Rattle.services.proofs.effects.effect.Reads as effect
 use Rattle.services.proofs.events.signal.Reads as signal
@@ -11,7 +11,7 @@ use Rattle.services.proofs.events.test_event.Reads as test-event
 use Rattle.services.proofs.events.wait.Reads as wait
 
 pub call-only : OneAnswer call.Post
-call-only κs given r s end end' p q = p ∙ sym q
+call-only κs given r s end end' p q = stepped-once r s (p ∙ sym q)
 
 pub effect-only : OneAnswer effect.Post
 effect-only κs given r s end end' p q = gives-once p q

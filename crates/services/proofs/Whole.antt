@@ -7,16 +7,18 @@ use mathlib.Core.List.{List, []}
 use Prim.Native.Nat.{ℕ}
 use lib.ListN.{length}
 use borrow.Author.Tests.{eq-eqb, ne_eqb}
+use Rattle.std.specs.Prelude.{Result, Ok, Err}
 use Rattle.words.proofs.Truth.{tested}
 use Rattle.words.specs.Rows.{first_of}
-use Rattle.answers.specs.declared.Outcome.TheVariants.{Refused, Accepted}
+use Rattle.answers.specs.declared.Refusal.{Refusal}
+use Rattle.answers.specs.declared.Refusal.TheVariants.{CallLength}
+use Rattle.answers.specs.Answer.{Refused, Accepted, number}
+use Rattle.answers.proofs.Cases.{number-some}
 use Rattle.tables.specs.declared.Tables.{Tables}
 use Rattle.tables.specs.State.{read}
 use Rattle.tables.specs.Held.{Held, Shows}
 use Rattle.tables.proofs.Held.{shown}
 use Rattle.calls.specs.declared.Call.{Call}
-use Rattle.calls.specs.declared.Arrival.{Arrival}
-use Rattle.calls.specs.declared.Arrival.TheVariants.{Came, Cut}
 use Rattle.calls.specs.Calls.{call_of, arrival}
 use Rattle.meaning.specs.declared.Given.{Given}
 use Rattle.meaning.specs.Given.{Gives}
@@ -31,25 +33,25 @@ use Rattle.lawful.proofs.Told.Steps.{tables-rules}
 use Rattle.scheduler.proofs.Shaped.{shape-held}
 
 -- ---- What came.
-is_call : Arrival → Bool
-is_call (Came c) = true
-is_call (Cut n) = false
+is_call : Result Call Refusal → Bool
+is_call (Ok c) = true
+is_call (Err r) = false
 
-call-in : Call → Arrival → Call
-call-in d (Came c) = c
-call-in d (Cut n) = d
+call-in : Call → Result Call Refusal → Call
+call-in d (Ok c) = c
+call-in d (Err r) = d
 
-came-whole : (bytes : List ℕ) (c : Call) → arrival bytes ≡ Came c → (length bytes ≡ 16) × (call_of bytes ≡ c)
+came-whole : (bytes : List ℕ) (c : Call) → arrival bytes ≡ Ok c → (length bytes ≡ 16) × (call_of bytes ≡ c)
 unfolding arrival is_call call-in
 came-whole bytes c e =
     ⊎_elim
-    (λ z. let f : Came (call_of bytes) ≡ Came c = rw z.0 at e in (z.1, ap (call-in c) f))
-    (λ z. let f : Cut 10 ≡ Came c = rw z.0 at e in absurd (true≢false (sym (ap is_call f))))
+    (λ z. let f : Ok (call_of bytes) ≡ Ok c = rw z.0 at e in (z.1, ap (call-in c) f))
+    (λ z. let f : Err CallLength ≡ Ok c = rw z.0 at e in absurd (true≢false (sym (ap is_call f))))
     (tested (length bytes) 16)
 
-cut_short : (bytes : List ℕ) (n : ℕ) → arrival bytes ≡ Cut n → length bytes ≢ 16
-unfolding arrival is_call call-in
-cut_short bytes n e z = let f : Came (call_of bytes) ≡ Cut n = rw (eq-eqb _ _ z) at e in true≢false (ap is_call f)
+cut_short : (bytes : List ℕ) (r : Refusal) → arrival bytes ≡ Err r → length bytes ≢ 16
+unfolding arrival is_call
+cut_short bytes r e z = let f : Ok (call_of bytes) ≡ Err r = rw (eq-eqb _ _ z) at e in true≢false (ap is_call f)
 
 -- after an accepted call the tables keep their shape, so that the dispatch may be made
 pub ready-to-dispatch : {t : Tables} {r : Given} (g : LawfulTables t) (c : Call) → first_of (call_rows (read t) c) ≡ 0 → Gives r (effect (read t) c) → Held r.tables
@@ -58,24 +60,24 @@ ready-to-dispatch {t} g c f h =
 
 module _ {t : Tables} (bytes : List ℕ) (g : LawfulTables t) where
   -- ---- 10.
-  pub cut : (n : ℕ) → arrival bytes ≡ Cut n → refused t 10 ≡ step_of t bytes
+  pub cut : (r : Refusal) → arrival bytes ≡ Err r → refused t 10 ≡ step_of t bytes
   unfolding step_of refusals first_of
-  cut n e = rw (tables-rules t g, ne_eqb _ _ (cut_short bytes n e))
+  cut r e = rw (tables-rules t g, ne_eqb _ _ (cut_short bytes r e))
 
   -- ---- The rows of the call.
-  module _ {c : Call} (e : arrival bytes ≡ Came c) where
+  module _ {c : Call} (e : arrival bytes ≡ Ok c) where
     rows : first_of (refusals t bytes) ≡ first_of (call_rows (read t) c)
     unfolding refusals first_of
     rows = let w = came-whole bytes c e in rw (tables-rules t g, eq-eqb _ _ w.0, w.1)
 
-    pub turned-away : {n : ℕ} → n ≡ first_of (call_rows (read t) c) → n ≢ 0 → record { tables = t; outcome = Refused n } ≡ step_of t bytes
+    pub turned-away : (r : Refusal) → number r ≡ first_of (call_rows (read t) c) → record { tables = t; outcome = Refused (number r) } ≡ step_of t bytes
     unfolding step_of refused
-    turned-away {n} f d = let h = rows ∙ sym f in rw (h, ne_eqb n 0 d)
+    turned-away r f = let h = rows ∙ sym f in rw (h, ne_eqb (number r) 0 (number-some r))
 
     -- ---- A call that is accepted.
-    pub carried-out : {n : ℕ} {r : Given} {u : Tables} → n ≡ first_of (call_rows (read t) c) → n ≡ 0 → Gives r (effect (read t) c)
+    pub carried-out : {r : Given} {u : Tables} → 0 ≡ first_of (call_rows (read t) c) → Gives r (effect (read t) c)
         → Shows u (dispatched (read r.tables)) → record { tables = u; outcome = Accepted r.result } ≡ step_of t bytes
     unfolding step_of accepted
-    carried-out {n} {r} {u} f z h d =
+    carried-out {r} {u} f h d =
         let w = came-whole bytes c e in
-        rw (rows ∙ sym f ∙ z, w.1, shown d, h.shows.reads, h.result)
+        rw (rows ∙ sym f, w.1, shown d, h.shows.reads, h.result)

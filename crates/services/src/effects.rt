@@ -36,7 +36,8 @@ fn tell(t: Tables, c: Call) -> Given
     }
 }
 
-// What an accepted call does, before the dispatch at its end.
+// What an accepted call does, before the dispatch at its end: a match on the code. A closure for each code would have to be stored and handed out, which the
+// toolchain refuses.
 pub fn effect(t: Tables, c: Call) -> Given
     requires { LawfulTables t × Accepts (read t) c }
     ensures { Gives result (effect (read t) c) }
@@ -51,6 +52,7 @@ pub fn effect(t: Tables, c: Call) -> Given
         codes::SIGNAL => one(events::signal(t, c)),
         codes::TEST_EVENT => tell(t, c),
         codes::DISPATCH_CHECK => one(turns::dispatch_check(t)),
+        // READ and WRITE stand apart: of two numbers in one arm a proof does not learn which came (tried).
         codes::READ => transfer::transfer(t, c),
         codes::WRITE => transfer::transfer(t, c),
         codes::CHECK => one(check::check(t, c)),

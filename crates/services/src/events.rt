@@ -10,7 +10,7 @@ ghost use Rattle.lawful.specs.Tables.{LawfulTables};
 use calls::Call;
 use tables::Tables;
 use waiting::{conditions, wait, wake};
-use words::sets64;
+use words::sets;
 
 // The event has been signalled, on or off. It is on, and every event waiter whose condition holds is made ready; or it is off, and nobody is woken.
 pub fn signal(t: Tables, c: Call) -> Tables
@@ -18,23 +18,24 @@ pub fn signal(t: Tables, c: Call) -> Tables
     ensures { Shows result (signal (read t) c).state }
 {
     let mut u = t;
-    u.signalled = sets64::adding(u.signalled, c.number as u32);
+    u.signalled = sets::adding(u.signalled, c.number as u32);
     if c.value == 1 {
-        u.on = sets64::adding(u.on, c.number as u32);
+        u.on = sets::adding(u.on, c.number as u32);
         return wake::wake_events(u);
     }
-    u.on = sets64::dropping(u.on, c.number as u32);
+    u.on = sets::dropping(u.on, c.number as u32);
     u
 }
 
-// 1 for an event that is off, 2 for one that is on, 3 for one that has not been signalled since the load.
+// The result of the call, a number of its answer and so none of an enum: 1 for an event that is off, 2 for one that is on, 3 for one that has not been
+// signalled since the load.
 pub fn test_event(t: Tables, c: Call) -> u8
     ensures { result ≡ (test_event (read t) c).result }
 {
-    if !sets64::has(t.signalled, c.number as u32) {
+    if !sets::has(t.signalled, c.number as u32) {
         return 3;
     }
-    if sets64::has(t.on, c.number as u32) {
+    if sets::has(t.on, c.number as u32) {
         2
     } else {
         1

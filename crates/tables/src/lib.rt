@@ -15,14 +15,14 @@ pub mod names;
 pub mod places;
 
 use image::Directory;
-use names::{FREE, REQUEST_SLOTS, TASK_SLOTS};
+use names::{REQUEST_BLOCKS, REQUEST_SLOTS, TASK_BLOCKS, TASK_SLOTS};
 use threads::Threads;
 
 // place, core: numbers of names.rt. program: the number of its module. start: where the run begins that it holds.
 // count and events are the condition of an event waiter, time that of a time waiter, request what a task in CHECK waits for.
 // since: the clock reading at which it entered the place in which it waits; 0 where it does not wait.
 #[repr(C)]
-#[derive(Clone, Copy)]
+#[derive(Clone, Copy, Debug, PartialEq, Eq, Default)]
 pub struct Task {
     pub events: u64,
     pub time: u32,
@@ -38,7 +38,7 @@ pub struct Task {
 
 // place: a number of names.rt. command: the call's code, 13 or 14.
 #[repr(C)]
-#[derive(Clone, Copy)]
+#[derive(Clone, Copy, Debug, PartialEq, Eq, Default)]
 pub struct Request {
     pub place: u8,
     pub owner: u8,
@@ -52,7 +52,7 @@ pub struct Request {
 // running, channel: the block that runs, and the one on the channel; 0 for none.
 // holes: the rule by which core is granted, a number of `pools`. It is as wide as leaves no byte behind it.
 #[repr(C)]
-#[derive(Clone, Copy)]
+#[derive(Clone, Copy, Debug, PartialEq, Eq)]
 pub struct Tables {
     pub directory: Directory,
     pub on: u64,
@@ -69,57 +69,42 @@ pub struct Tables {
     pub holes: u64,
 }
 
+// All task blocks and all request blocks, as sets: bits 1 to 24, and bits 1 to 16.
+const ALL_TASKS: u32 = (2 << TASK_BLOCKS) - 2;
+
+const ALL_REQUESTS: u32 = (2 << REQUEST_BLOCKS) - 2;
+
 // The tables of a directory, just loaded: no tasks, no event on and none signalled, clock 0. Grants follow the rule that is given.
 pub fn loaded(holes: u64, directory: Directory) -> Tables
     ensures { result ≡ tabled (loaded holes directory) }
 {
-    unused(directory, holes, 33554430, 131070)
+    unused(directory, holes, ALL_TASKS, ALL_REQUESTS)
 }
 
 // The tables that a refused load gives.
 pub fn all_zero() -> Tables
     ensures { result ≡ tabled all_zero }
 {
-    unused(image::entries::none(), 0, 0, 0)
+    unused(Directory::default(), 0, 0, 0)
 }
 
 // The tables of a directory in which nothing is used, with the blocks of two sets free, in which grants follow a rule.
 fn unused(directory: Directory, holes: u64, free_tasks: u32, free_requests: u32) -> Tables
     ensures { result ≡ tabled (unused directory holes free_tasks free_requests) }
 {
-    let task = Task {
-        events: 0,
-        time: 0,
-        since: 0,
-        count: 0,
-        program: 0,
-        request: 0,
-        place: FREE,
-        parent: 0,
-        core: 0,
-        start: 0,
-    };
-    let request = Request {
-        place: FREE,
-        owner: 0,
-        device: 0,
-        command: 0,
-        bytes: 0,
-    };
-    let threads = threads::empty();
     Tables {
         directory: directory,
         on: 0,
         signalled: 0,
         pools: [0; 4],
-        tasks: [task; TASK_SLOTS],
+        tasks: [Task::default(); TASK_SLOTS],
         clock: 0,
         free_tasks: free_tasks,
         free_requests: free_requests,
-        requests: [request; REQUEST_SLOTS],
+        requests: [Request::default(); REQUEST_SLOTS],
         running: 0,
         channel: 0,
-        threads: threads,
+        threads: threads::empty(),
         holes: holes,
     }
 }

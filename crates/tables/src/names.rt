@@ -14,7 +14,8 @@ pub const TASK_SLOTS: usize = TASK_COUNT + 1;
 
 pub const REQUEST_SLOTS: usize = REQUEST_COUNT + 1;
 
-// The place of a task block.
+// The place of a task block. Places and the three states of core are numbers and no enums: C holds the tables, a byte of them may have any value, and the
+// check of the tables answers for each.
 pub const FREE: u8 = 0;
 
 pub const RUNNING: u8 = 1;

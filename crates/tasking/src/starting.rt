@@ -6,7 +6,7 @@ ghost use Rattle.tables.specs.Held.{Shows};
 ghost use Rattle.meaning.specs.Given.{Gives};
 ghost use Rattle.meaning.specs.Services.{stopped, link, schedule, operator_start};
 ghost use Rattle.lawful.specs.Accepts.{Condition};
-ghost use Rattle.tasking.specs.Starting.{Starting};
+ghost use Rattle.tasking.specs.Starting.{Starting, newcomer};
 
 use blocks::free;
 use calls::Call;
@@ -16,17 +16,27 @@ use tables::Tables;
 use tables::names::IN_LINK;
 use waiting::{conditions, wait};
 
+// A task of the module that a call names, child of `parent` or of none, is made in the lowest free block; the result is that block.
+fn newcomer(t: Tables, c: Call, parent: u8) -> Given
+    requires { Starting t c }
+    ensures { Gives result (newcomer (read t) c parent) }
+{
+    let k = free::lowest(t.free_tasks);
+    Given {
+        tables: free::create(t, k, c.number, parent),
+        result: k,
+    }
+}
+
 // A task with no parent is made in the lowest free block, and is made ready.
 pub fn start(t: Tables, c: Call) -> Given
     requires { Starting t c }
     ensures { Gives result (operator_start (read t) c) }
 {
-    let k = free::lowest(t.free_tasks);
-    let fresh = free::create(t, k, c.number, 0);
-    let ready = ready::make_ready(fresh, k);
+    let fresh = newcomer(t, c, 0);
     Given {
-        tables: ready,
-        result: k,
+        tables: ready::make_ready(fresh.tables, fresh.result),
+        ..fresh
     }
 }
 
@@ -35,20 +45,13 @@ pub fn schedule(t: Tables, c: Call) -> Given
     requires { Starting t c × Condition (read t) c }
     ensures { Gives result (schedule (read t) c) }
 {
-    let k = free::lowest(t.free_tasks);
-    let made = free::create(t, k, c.number, 0);
-    if conditions::holds(t, c) {
-        let ready = ready::make_ready(made, k);
-        return Given {
-            tables: ready,
-            result: k,
-        };
-    }
-    let waits = wait::wait_for(made, k, c);
-    Given {
-        tables: waits,
-        result: k,
-    }
+    let fresh = newcomer(t, c, 0);
+    let tables = if conditions::holds(t, c) {
+        ready::make_ready(fresh.tables, fresh.result)
+    } else {
+        wait::wait_for(fresh.tables, fresh.result, c)
+    };
+    Given { tables, ..fresh }
 }
 
 // The caller stops running, and is in the place p.
@@ -58,8 +61,7 @@ pub fn stop(t: Tables, p: u8) -> Tables
 {
     let mut r = t;
     let k = r.running;
-    let x = blocks::moving(r.clock, r.tasks[k as usize], p);
-    r.tasks[k as usize] = x;
+    r.tasks[k as usize] = blocks::moving(r.clock, r.tasks[k as usize], p);
     r.running = 0;
     r
 }
@@ -69,12 +71,10 @@ pub fn link(t: Tables, c: Call) -> Given
     requires { Starting t c × (t.running ≢ 0) }
     ensures { Gives result (link (read t) c) }
 {
-    let k = free::lowest(t.free_tasks);
-    let child = free::create(t, k, c.number, t.running);
-    let linked = stop(child, IN_LINK);
-    let ready = ready::make_ready(linked, k);
+    let child = newcomer(t, c, t.running);
+    let linked = stop(child.tables, IN_LINK);
     Given {
-        tables: ready,
-        result: k,
+        tables: ready::make_ready(linked, child.result),
+        ..child
     }
 }

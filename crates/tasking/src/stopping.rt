@@ -24,10 +24,7 @@ pub fn end(t: Tables) -> Tables
     requires { LawfulTables t × (t.running ≢ 0) }
     ensures { (c : Call) → Shows result (end (read t) c).state }
 {
-    let mut u = t;
-    let k = u.running;
-    u.running = 0;
-    finish::end(u, k)
+    finish::end(Tables { running: 0, ..t }, t.running)
 }
 
 // The running task is aborted, and then its parent, and so on upward: at most 24 tasks.
@@ -35,8 +32,5 @@ pub fn program_check(t: Tables) -> Tables
     requires { LawfulTables t × (t.running ≢ 0) }
     ensures { (c : Call) → Shows result (program_check (read t) c).state }
 {
-    let mut u = t;
-    let k = u.running;
-    u.running = 0;
-    abort::abort(u, k, TASK_BLOCKS)
+    abort::abort(Tables { running: 0, ..t }, t.running, TASK_BLOCKS)
 }

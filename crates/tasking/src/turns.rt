@@ -20,8 +20,7 @@ fn lead(t: Tables, q: u8, k: u8) -> Tables
     ensures { Shows result (leading (read t) q k) }
 {
     let mut r = t;
-    let h = threads::push(r.threads, q, k);
-    r.threads = h;
+    r.threads = threads::push(r.threads, q, k);
     r
 }
 
@@ -46,9 +45,8 @@ pub fn timer(t: Tables) -> Tables
     ensures { (c : Call) → Shows result (timer (read t) c).state }
 {
     let mut u = t;
-    let d = u.directory;
-    u.clock = u.clock + 1;
-    if u.clock % d.every == 0 {
+    u.clock += 1;
+    if u.clock % u.directory.every == 0 {
         return wake::wake_time(u);
     }
     u

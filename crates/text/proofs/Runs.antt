@@ -1,38 +1,37 @@
--- Passing the bytes of one class: a turn of the loop moves one byte from the run to what is passed, and where the run ends it is empty.
+-- Passing the bytes of one class: what `take_while` takes of the bytes is the run at their front, which is within them.
 use mathlib.Core.Path.{◌≡◌, refl, ◌∙◌}
 use mathlib.Core.List.{List, [], ◌∷◌}
-use Prim.Native.Nat.{ℕ, suc, ◌+◌, ◌≤◌, ◌<◌}
+use mathlib.Core.Bool.{Bool, true, false}
+use Prim.Native.Nat.{ℕ, suc, ◌+◌, ◌≤◌}
 use native.Mathlib.Omega.{arith}
-use native.Mathlib.Numerals.{add-one}
-use lib.ListN.{length, get_or, drop, length-drop}
-use lib.Seq.{drop-cons}
-use borrow.Author.Tests.{eq-eqb, ne_eqb}
+use native.Mathlib.Numerals.{one-add}
+use lib.Dec.{eqb}
+use lib.ListN.{length, drop, length-drop, take}
+use Rattle.std.specs.List.{prefix_len}
+use Rattle.std.proofs.lemmas.List.Folds.{length-prefix_len}
+use Rattle.words.specs.Words.{if◌then◌else◌}
 use Rattle.text.specs.Words.{class_of, run, Past}
 
--- a list of no length is empty
-none_left : (l : List ℕ) → length l ≡ 0 → (k : ℕ) → run k l ≡ 0
+-- the test of the class k
+abbrev pub of_class : ℕ → ℕ → Bool
+of_class k b = eqb (class_of b) k
+
+run-front : (k : ℕ) (l : List ℕ) → prefix_len (of_class k) l ≡ run k l
 unfolding run
-none_left [] e k = refl
-none_left (b ∷ l) e k = absurd (omega arith)
+run-front k [] = refl
+run-front k (b ∷ l) = rw (run-front k l, one-add (run k l)) refl
 
-module _ (line : List ℕ) (at k i : ℕ) where
-  -- what the loop keeps: the run from `at` on ends where the run from i on does
-  abbrev pub Passing : Type 0
-  Passing = at + run k (drop at line) ≡ i + run k (drop i line)
+run-inside : (k : ℕ) (l : List ℕ) → run k l ≤ length l
+unfolding run
+run-inside k [] = omega arith
+run-inside k (b ∷ l) = elim (eqb (class_of b) k) as (λ t. (if t then suc (run k l) else 0) ≤ length (b ∷ l)) [ true ↦ omega (arith, run-inside k l) | false ↦ omega arith ]
 
-  pub pass : i < length line → class_of (get_or line i 0) ≡ k → Passing → at + run k (drop at line) ≡ i + 1 + run k (drop (i + 1) line)
-  unfolding run
-  pass low same kept =
-      let here : run k (drop i line) ≡ suc (run k (drop (i + 1) line)) = rw (add-one i, drop-cons line i 0 low, eq-eqb (class_of (get_or line i 0)) k same) refl in
-      omega (arith, kept, here)
-
-  pub stop-other : at ≤ i → i < length line → (class_of (get_or line i 0) ≡ k → ⊥) → Passing → Past line at k i
-  unfolding run
-  stop-other least low other kept =
-      let here : run k (drop i line) ≡ 0 = rw (drop-cons line i 0 low, ne_eqb (class_of (get_or line i 0)) k other) refl in
-      record { least = least; inside = omega arith; exact = omega (arith, kept, here) }
-
-  pub stop-end : at ≤ i → i ≤ length line → length line ≤ i → Passing → Past line at k i
-  stop-end least inside past kept =
-      let here : run k (drop i line) ≡ 0 = none_left (drop i line) (length-drop i line ∙ omega arith) k in
-      record { least = least; inside = inside; exact = omega (arith, kept, here) }
+-- r is as many more as are taken from `at` on
+pub passed : (line : List ℕ) (at k n : ℕ) → at ≤ length line → n ≡ length (take (prefix_len (of_class k) (drop at line)) (drop at line)) → Past line at k (at + n)
+passed line at k n inside taken =
+    let same : n ≡ run k (drop at line) = taken ∙ length-prefix_len (of_class k) (drop at line) ∙ run-front k (drop at line) in
+    record {
+      least = omega arith;
+      inside = omega (arith, same, run-inside k (drop at line), length-drop at line);
+      exact = rw same refl;
+    }

@@ -1,10 +1,9 @@
 -- Numbers in decimal: what bytes mean as a number, and how a number is spelled. 48 is the byte of the digit 0.
-use Rattle.std.specs.Prelude.{Bool, not, ◌&&◌, ◌||◌, List, [], ◌∷◌, ◌++◌, ◌≡◌, ℕ, zero, suc, ◌+◌, ◌-◌, ◌*◌, ◌/◌, ◌%◌, ◌≤◌, eqb, leb, ltb, length, get_or, take, if◌then◌else◌}
-use Rattle.io.specs.Counts.{IsPrefixLen}
+use Rattle.std.specs.Prelude.{Bool, not, ◌&&◌, ◌||◌, List, [], ◌∷◌, ◌++◌, ◌≡◌, ℕ, zero, suc, ◌+◌, ◌-◌, ◌*◌, ◌/◌, ◌%◌, ◌≤◌, eqb, leb, ltb, length, get_or, Result, Ok, Err, if◌then◌else◌}
+use Rattle.arrayvec.specs.ArrayVec.{ArrayVec}
 use Rattle.words.specs.Words.{all_of}
-use Rattle.text.specs.declared.decimals.Number.{Number}
-use Rattle.text.specs.declared.decimals.Number.TheVariants.{Value, Large, Other}
-use Rattle.text.specs.declared.decimals.Spelled.{Spelled}
+use Rattle.text.specs.declared.decimals.NumberError.{NumberError}
+use Rattle.text.specs.declared.decimals.NumberError.TheVariants.{TooLarge, NotANumber}
 
 -- the byte is one of '0' to '9'
 abbrev pub is_digit : ℕ → Bool
@@ -24,12 +23,12 @@ abbrev pub value_of : List ℕ → ℕ
 value_of l = value_from 0 l
 
 -- a value that is to be at most `most`
-abbrev pub at_most : ℕ → ℕ → Number
-at_most value most = if leb value most then Value value else Large
+abbrev pub at_most : ℕ → ℕ → Result ℕ NumberError
+at_most value most = if leb value most then Ok value else Err TooLarge
 
 -- what bytes are as a number: none, more than `most`, or its value
-unfoldable pub number_of : List ℕ → ℕ → Number
-number_of l most = if all_digits l then at_most (value_of l) most else Other
+unfoldable pub number_of : List ℕ → ℕ → Result ℕ NumberError
+number_of l most = if all_digits l then at_most (value_of l) most else Err NotANumber
 
 -- a number in decimal, of at most so many digits: its last digit stands behind the number without it
 unfoldable pub spelling_by : ℕ → ℕ → List ℕ
@@ -44,9 +43,7 @@ spelling n = spelling_by (suc n) n
 unfoldable pub plain : List ℕ → Bool
 plain l = all_digits l && (eqb (length l) 1 || not (eqb (get_or l 0 0) 48))
 
--- r holds a number in decimal; its digits are the first of its bytes, in the words in which `&bytes[..count]` asks for it
-pub record Spells (n : ℕ) (r : Spelled) : Type 0 where
-  pub text : take r.count r.bytes ≡ spelling n
-  pub count : r.count ≡ length (spelling n)
-  pub few : r.count ≤ 20
-  pub first : IsPrefixLen r.count r.bytes
+-- r is a number in decimal, in at most 20 digits
+pub record Spells (n : ℕ) (r : ArrayVec ℕ) : Type 0 where
+  pub text : r.items ≡ spelling n
+  pub few : length r.items ≤ 20

@@ -1,10 +1,18 @@
 -- Words: parted by blanks, with a comma and a dash each a word of its own.
 use Rattle.std.specs.Prelude.{◌||◌, List, [], ◌∷◌, ◌≡◌, ℕ, suc, ◌+◌, ◌≤◌, eqb, length, get_or, drop, if◌then◌else◌}
 use Rattle.text.specs.declared.word.Word.{Word}
+use Rattle.text.specs.declared.word.Class.{Class}
+use Rattle.text.specs.declared.word.Class.TheVariants.{Plain, Blank, Alone}
 
 -- 1 for a blank (space, tab, carriage return), 2 for a comma or a dash, 0 for any other byte
 abbrev pub class_of : ℕ → ℕ
 class_of b = if eqb b 32 || eqb b 9 || eqb b 13 then 1 else if eqb b 44 || eqb b 45 then 2 else 0
+
+-- the same number of each class in the source
+abbrev pub class_number : Class → ℕ
+class_number Plain = 0
+class_number Blank = 1
+class_number Alone = 2
 
 -- how many bytes of a class stand at the front
 unfoldable pub run : ℕ → List ℕ → ℕ

@@ -1,107 +1,70 @@
 // Decimal numbers: what bytes are as a number, and a number as bytes.
-ghost use Rattle.std.specs.Prelude.{◌≡◌, ◌+◌, ◌-◌, ◌*◌, leb};
-ghost use Rattle.text.specs.Decimals.{is_digit, all_digits, value_of, at_most, number_of, plain as is_plain, Spells};
+ghost use Rattle.std.specs.Prelude.{◌≡◌, ◌+◌, ◌*◌, leb};
+ghost use Rattle.text.specs.Decimals.{all_digits, value_of, at_most, number_of, plain as is_plain, Spells};
 
-// What bytes are as a number: its value, more than was asked for, or no number.
-#[derive(Clone, Copy)]
-pub enum Number {
-    Value(u64),
-    Large,
-    Other,
-}
+use arrayvec::ArrayVec;
 
-// The digits of a number, and how many of the bytes they are.
-#[derive(Clone, Copy)]
-pub struct Spelled {
-    pub bytes: [u8; 20],
-    pub count: usize,
-}
-
-fn is_digit(byte: u8) -> bool
-    ensures { result ≡ is_digit byte }
-{
-    (48 <= byte) & (byte <= 57)
+// Why bytes are not the number that is asked for.
+#[derive(Clone, Copy, Debug, PartialEq, Eq)]
+pub enum NumberError {
+    TooLarge,
+    NotANumber,
 }
 
 // Whether bytes are digits, at least one, and nothing else.
 pub fn all_digits(bytes: &[u8]) -> bool
     ensures { result ≡ all_digits bytes.now }
 {
-    let mut i: usize = 0;
-    while i < bytes.len() {
-        if !is_digit(bytes[i]) {
-            return false;
-        }
-        i += 1;
-    }
-    0 < bytes.len()
+    !bytes.is_empty() && bytes.iter().all(|byte| byte.is_ascii_digit())
 }
 
 // Whether bytes are the spelling of a number: digits, with no 0 in front unless it is the only one.
 pub fn plain(bytes: &[u8]) -> bool
     ensures { result ≡ is_plain bytes.now }
 {
-    if all_digits(bytes) {
-        return (bytes.len() == 1) | (bytes[0] != 48);
-    }
-    false
-}
-
-// The digit that a byte stands for; 0 for a byte below the digits.
-fn digit(byte: u8) -> u64
-    ensures { result ≡ byte - 48 }
-{
-    if byte < 48 {
-        return 0;
-    }
-    (byte - 48) as u64
+    all_digits(bytes) && (bytes.len() == 1 || bytes[0] != b'0')
 }
 
 // Whether a number with a digit behind it is at most `most`.
 fn room(value: u64, digit: u64, most: u64) -> bool
     ensures { result ≡ leb (value * 10 + digit) most }
 {
-    if most < digit {
-        return false;
-    }
-    value <= (most - digit) / 10
+    digit <= most && value <= (most - digit) / 10
 }
 
 // The value of digits, if it is at most `most`.
-fn value(bytes: &[u8], most: u64) -> Number
+fn value(bytes: &[u8], most: u64) -> Result<u64, NumberError>
     ensures { result ≡ at_most (value_of bytes.now) most }
 {
-    let mut so_far: u64 = 0;
-    let mut i: usize = 0;
-    while i < bytes.len() {
-        let next = digit(bytes[i]);
+    let mut so_far = 0;
+    for byte in bytes {
+        let next = u64::from(byte.saturating_sub(b'0'));
         if !room(so_far, next, most) {
-            return Number::Large;
+            return Err(NumberError::TooLarge);
         }
         so_far = so_far * 10 + next;
-        i += 1;
     }
-    Number::Value(so_far)
+    Ok(so_far)
 }
 
 // The number that bytes are, which is to be at most `most`.
-pub fn read(bytes: &[u8], most: u64) -> Number
+pub fn read(bytes: &[u8], most: u64) -> Result<u64, NumberError>
     ensures { result ≡ number_of bytes.now most }
 {
     if all_digits(bytes) {
-        return value(bytes, most);
+        value(bytes, most)
+    } else {
+        Err(NumberError::NotANumber)
     }
-    Number::Other
 }
 
 // A number in decimal.
-pub fn spell(n: u64) -> Spelled
+pub fn spell(n: u64) -> ArrayVec<u8, 20>
     ensures { Spells n result }
 {
-    let mut digits = [0u8; 20];
+    let mut digits = [0; 20];
     let count = io::decimal(n, &mut digits);
-    Spelled {
-        bytes: digits,
-        count: count,
-    }
+    let mut spelled = ArrayVec::from(digits);
+    spelled.truncate(count);
+    spelled
 }

@@ -11,6 +11,7 @@ pub mod Walk
 pub mod Places
 pub mod Moves
 pub mod Entering
+pub mod Zeros
 pub mod Unique
 pub mod Queues
 pub mod Tests

@@ -1,5 +1,9 @@
 -- No second answer: any two results that both meet what a public function of this crate promises are equal. `Post` is the promise itself, as the contract in
 -- the source states it. Pointers are determined by the lists that they hold.
+use mathlib.Core.Path.{◌≡◌}
+use Prim.Native.Nat.{ℕ}
+use Rattle.threads.specs.Threads.{Follows}
+use Rattle.threads.specs.contracts.enter.F-Fn.{words}
 use Rattle.words.proofs.Once.{OneAnswer}
 use Rattle.threads.proofs.Read.{determined}
 use Rattle.threads.proofs.empty.Reads as empty
@@ -24,5 +28,8 @@ insert-before-only κs given r s end end' p q = determined p q
 pub remove-only : OneAnswer remove.Post
 remove-only κs given r s end end' p q = determined p q
 
-pub enter-only : OneAnswer enter.Post
-enter-only κs given r s end end' p q = determined p q
+-- `enter` at any closure whose answers follow an order.
+pub enter-only : (F laws fn d e f g : _) (order : ℕ → ℕ) (κs given r s end end' : _)
+    → enter.Post F laws fn d e f g κs given r end → enter.Post F laws fn d e f g κs given s end'
+    → Follows given.0 given.1.0 given.1.1.0 ((words F fn).post given.1.1.1.0) order → r ≡ s
+enter-only F laws fn d e f g order κs given r s end end' p q k = determined (p order k) (q order k)

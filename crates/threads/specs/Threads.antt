@@ -54,12 +54,7 @@ row f = 0 ∷ tab BLOCKS (λ y. f (suc y))
 -- the pointers of lists: of each block, the one behind it and the one before it in the list that it is in; of each list, its first and its last
 unfoldable pub threaded : List (List ℕ) → Threads
 threaded ls =
-    record {
-      fwd = row (λ y. after (list_of y ls) y);
-      back = row (λ y. before 0 (list_of y ls) y);
-      first = map hd ls;
-      last = map (lst 0) ls;
-    }
+    record { fwd = row (λ y. after (list_of y ls) y); back = row (λ y. before 0 (list_of y ls) y); first = map hd ls; last = map (lst 0) ls }
 
 -- ---- The lists of pointers.
 
@@ -127,3 +122,11 @@ pub record Member (t : Threads) (q x : ℕ) : Type 0 where
 unfoldable pub insert_before : ℕ → ℕ → List ℕ → List ℕ
 insert_before b x [] = []
 insert_before b x (a ∷ l) = if eqb a b then x ∷ a ∷ l else a ∷ insert_before b x l
+
+-- y is asked for its key when x enters the queue q: it is x, or stands in q
+abbrev pub Asked : Threads → ℕ → ℕ → ℕ → Type 0
+Asked t q x y = 1 ≤ count y (x ∷ queue_in (queues_of t) q)
+
+-- what those that are asked answer is what `order` gives
+abbrev pub Follows : Threads → ℕ → ℕ → (ℕ → ℕ → Type 0) → (ℕ → ℕ) → Type 0
+Follows t q x Answers order = (y key : ℕ) → Asked t q x y → Answers y key → key ≡ order y

@@ -1,3 +1,2 @@
-pub mod Times
 pub mod Walked
 pub mod Unique

@@ -8,11 +8,14 @@ ghost use Rattle.meaning.specs.Conditions.{due_of, holds};
 use calls::Call;
 use tables::Tables;
 
+// A kind stays a number: `holds` and `due_of` of the meaning are of any byte of a call, and read each other number as kind 3, which an enum of the four kinds
+// has no place for.
+
 // At least `count` of the events are on.
 pub fn enough_on(on: u64, count: u32, events: u64) -> bool
     ensures { result ≡ leb count (size (bit_and events on)) }
 {
-    count <= words::sets64::ones(events & on)
+    count <= words::sets::ones(events & on)
 }
 
 // The clock reading of kinds 2 and 3. It may lie past the clock's end.

@@ -1,16 +1,15 @@
 // Waiting for a condition: in the event queue by arrival, in the time queue by time and then arrival.
-ghost use Rattle.std.specs.Prelude.{◌≡◌, ◌≢◌, ℕ, ◌^◌, ◌<◌, get_or};
+ghost use Rattle.std.specs.Prelude.{◌≡◌, ◌≢◌, ◌^◌, ◌<◌};
 ghost use Rattle.threads.specs.Threads.{Outside};
 ghost use Rattle.tables.specs.Blocks.{awaiting_events, awaiting_time};
-ghost use Rattle.tables.specs.State.{read, task_at, event_queue, time_queue};
+ghost use Rattle.tables.specs.State.{read, event_queue, time_queue};
 ghost use Rattle.tables.specs.Held.{Held, Loose, Shows};
 ghost use Rattle.meaning.specs.Conditions.{due_of, awaits_events, in_time, awaits_time, waiting};
 
 use crate::conditions;
 use calls::Call;
-use tables::names::{EVENT_QUEUE, IN_EVENT, IN_TIME, TASK_SLOTS, TIME_QUEUE};
+use tables::names::{EVENT_QUEUE, IN_EVENT, IN_TIME, TIME_QUEUE};
 use tables::{Tables, Task};
-use threads::CELLS;
 
 // A task block in the event queue.
 fn awaiting_events(clock: u32, task: Task, count: u8, events: u64) -> Task
@@ -40,27 +39,13 @@ pub fn wait_for_events(t: Tables, k: u8, c: Call) -> Tables
     blocks::join(t, EVENT_QUEUE, k, x)
 }
 
-// The times of the blocks, by their numbers in the queues.
-fn times(t: Tables) -> [u32; CELLS]
-    ensures { (y : ℕ) → y < 25 → get_or result y 0 ≡ (task_at (read t) y).time }
-{
-    let mut keys: [u32; CELLS] = [0; CELLS];
-    let mut k: usize = 0;
-    while k < TASK_SLOTS {
-        keys[k] = t.tasks[k].time;
-        k += 1;
-    }
-    keys
-}
-
 // The task k, of no queue, enters the time queue by the time of its block.
 fn enter_time(t: Tables, k: u8) -> Tables
     requires { Held t × Outside t.threads time_queue k × (k < 25) }
     ensures { Shows result (in_time (read t) k) }
 {
     let mut r = t;
-    let h = threads::enter(r.threads, TIME_QUEUE, k, times(t));
-    r.threads = h;
+    r.threads = threads::enter(t.threads, TIME_QUEUE, k, |y| t.tasks[y as usize].time);
     r
 }
 

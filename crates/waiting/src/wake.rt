@@ -23,7 +23,8 @@ pub fn wake(t: Tables, q: u8, k: u8) -> Tables
     ready::make_ready(u, k)
 }
 
-// The task k, which waits in the queue q, is made ready if what it waits for has come: in the event queue its condition, in the time queue its time.
+// The task k, which waits in the queue q, is made ready if what it waits for has come: in the event queue its condition, in the time queue its time. Which of
+// the two is asked by the queue's number, as `woken_in` of specs/ has it; a closure for each would have that promise written twice, and be no plainer.
 fn wake_if_due(t: Tables, q: u8, k: u8) -> Tables
     requires { Waiting t q k × Watched q }
     ensures { Shows result (woken_in q k (read t)) }
@@ -56,6 +57,8 @@ fn wake_all(t: Tables, q: u8) -> Tables
     }
     u
 }
+
+// `wake_all` is the one walk of both queues. The next two are kept for what they promise, each in the words that the meaning has for its own queue.
 
 // Each task of the event queue whose condition holds is made ready, front to back.
 pub fn wake_events(t: Tables) -> Tables

@@ -8,7 +8,7 @@ use contract.Monad.{fact, fact_i, fact_use}
 abbrev pub OneAnswer : {L : Type 0} {G R E : L → Type 0} → ((κs : L) → G κs → R κs → E κs → Type 0) → Type 0
 OneAnswer {L} {G} {R} {E} Post = (κs : L) (given : G κs) (r s : R κs) (end end' : E κs) → Post κs given r end → Post κs given s end' → r ≡ s
 
--- Of a function that is walked by hand the promise is a clause of the program logic, a fact: what the facts of two answers give.
+-- Where what a function promises of what it was lent is a clause of the program logic, it stands there as a fact: what the facts of two answers give.
 module _ {M : Type 1} (𝓤 : Ura M) {A B C : Type 0} (give : A → B → C) where
   pub facts-once : ent 𝓤 (sep 𝓤 (fact 𝓤 A) (fact 𝓤 B)) (fact 𝓤 C)
   facts-once =

@@ -1,16 +1,18 @@
 -- `numbers` meets its contract, case by case.
-use borrow.Author.Tests.{eq-eqb, ne_eqb}
+use borrow.Author.Tests.{ne_eqb}
+use Rattle.answers.specs.declared.Refusal.TheVariants.{Rules}
+use Rattle.answers.proofs.Cases.{number-once}
 use Rattle.calls.specs.Calls.{numbers}
+use Rattle.calls.proofs.numbers.Goals.{in-Rules, in_default}
 use Rattle.calls.proofs.numbers.Goals as goal
 
-pub returns-in-Accepted : goal.returns-in-Accepted
+pub returns-in-Ok : goal.returns-in-Ok
 unfolding numbers
-returns-in-Accepted c = rw c.in-Accepted.is
+returns-in-Ok c = rw c.in-Ok.is
 
-pub returns-then-number-eq9 : goal.returns-then-number-eq9
+pub returns-after-refusal : goal.returns-after-refusal
 unfolding numbers
-returns-then-number-eq9 c = rw (c.in-Refused.is, eq-eqb _ 9 c.if-number-eq9.true)
-
-pub returns-else-number-eq9 : goal.returns-else-number-eq9
-unfolding numbers
-returns-else-number-eq9 c = rw (c.in-Refused.is, ne_eqb _ 9 c.if-number-eq9.false)
+returns-after-refusal c = elim c.match-refusal.branch [
+  | in-Rules w ↦ rw (c.in-Err.is, c.from.ensures, w.named-is, w.in-Rules.is)
+  | in_default w ↦ rw (c.in-Err.is, c.from.ensures, w.named-is, ne_eqb _ 9 (λ z. w.in_default.not-Rules (number-once _ Rules z)))
+]

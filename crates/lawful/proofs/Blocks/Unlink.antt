@@ -7,7 +7,6 @@ use Prim.Native.Nat.{ℕ, ◌+◌, ◌≤◌}
 use native.Mathlib.Omega.{arith}
 use lib.ListN.{set, get_or, length-set}
 use lib.Seq.{get_or-set_same, get_or-set_other}
-use Rattle.threads.specs.Threads.{count}
 use Rattle.words.proofs.Truth.{tested}
 use Rattle.words.specs.Words.{◌among◌}
 use Rattle.image.specs.Directory.{no_entry}
@@ -26,7 +25,6 @@ use Rattle.threads.proofs.Queues.{up_same}
 use Rattle.lawful.proofs.Blocks.Sums.{field-kept, sum-set}
 use Rattle.words.proofs.Counting.{one-other, one-sym}
 use Rattle.lawful.proofs.Ready.Made.{stuck-same}
-use Rattle.lawful.proofs.Each.Finish.{ends}
 
 module _ {s : State} {h : List ℕ} {e : ℕ} (g : Shape s h e) (k : ℕ) (some : 1 ≤ k) (low : k ≤ task_blocks) (l : (task_at s k).parent ≡ e) where
   abbrev lone : Task

@@ -1,6 +1,6 @@
 -- What every call leaves as it was: the directory, the rule of the grants, the clock but for the timer, the events but for SIGNAL, and who runs, but that a service call or a program check may stop
 -- him.
-use mathlib.Core.Bool.{true, false, true≢false}
+use mathlib.Core.Bool.{false, true≢false}
 use mathlib.Core.Path.{◌≡◌, refl, sym, ap, ◌∙◌}
 use mathlib.Core.Logic.{◌≢◌, ◌⊎◌, inl, inr, ⊎_elim}
 use Prim.Native.Nat.{◌≤◌}

@@ -6,7 +6,6 @@ use mathlib.Core.Logic.{◌≢◌, ⊎_elim}
 use mathlib.Core.List.{List, []}
 use Prim.Native.Nat.{ℕ, ◌≤◌, ◌<◌}
 use native.Mathlib.Omega.{arith}
-use lib.ListN.{set}
 use lib.Seq.{get_or-set_other}
 use Rattle.words.proofs.Truth.{tested}
 use Rattle.words.specs.Words.{least}

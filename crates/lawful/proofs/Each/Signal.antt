@@ -6,7 +6,6 @@ use mathlib.Core.Logic.{⊎_elim}
 use mathlib.Core.List.{List, [], ◌∷◌}
 use Prim.Native.Nat.{ℕ, ◌≤◌}
 use native.Mathlib.Omega.{arith}
-use lib.ListN.{set}
 use lib.Bits.{bit_and}
 use borrow.Author.Tests.{leb-false, lt-leb}
 use Rattle.threads.specs.Threads.{count, without}

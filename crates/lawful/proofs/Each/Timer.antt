@@ -5,7 +5,6 @@ use mathlib.Core.Logic.{◌≢◌}
 use mathlib.Core.List.{List, [], ◌∷◌}
 use Prim.Native.Nat.{ℕ, ◌+◌, ◌%◌, ◌≤◌}
 use native.Mathlib.Omega.{arith}
-use lib.ListN.{set}
 use lib.Seq.{get_or-set_other}
 use lib.Dec.{eqb, leb, ltb}
 use Rattle.threads.specs.Threads.{count, without}

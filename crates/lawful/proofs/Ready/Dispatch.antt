@@ -5,7 +5,7 @@ use mathlib.Core.Logic.{⊎_elim}
 use mathlib.Core.List.{List}
 use Prim.Native.Nat.{ℕ, ◌≤◌, ◌<◌}
 use native.Mathlib.Omega.{arith}
-use lib.ListN.{set, get_or}
+use lib.ListN.{get_or}
 use lib.Seq.{get_or-set_other}
 use Rattle.threads.specs.Threads.{hd, count, without}
 use Rattle.words.proofs.Truth.{tested}

@@ -9,10 +9,8 @@ use borrow.Author.Tests.{eq-eqb, ne_eqb}
 use Rattle.words.proofs.Truth.{tested}
 use Rattle.words.specs.Words.{if◌then◌else◌, ◌among◌}
 use Rattle.words.specs.Rows.{first_of}
-use Rattle.answers.specs.declared.Outcome.TheVariants.{Refused, Accepted}
-use Rattle.image.specs.declared.Loaded.{Loaded}
-use Rattle.answers.specs.Answer.{refusal_of}
-use Rattle.image.specs.Load.{directory_of, load_of}
+use Rattle.answers.specs.Answer.{Refused, Accepted, refusal_of}
+use Rattle.image.specs.Load.{Loaded, directory_of, load_of}
 use Rattle.image.proofs.Loads.{load-accepted, check-is-load}
 use Rattle.answers.proofs.Cases.{refused-by}
 use Rattle.tables.specs.declared.Tables.{Tables}

@@ -9,24 +9,20 @@ use native.Mathlib.Omega.{arith}
 use borrow.Author.Tests.{eq-eqb, ne_eqb}
 use Rattle.words.proofs.Truth.{tested}
 use Rattle.words.specs.Rows.{first_of}
-use Rattle.answers.specs.declared.Outcome.{Outcome}
-use Rattle.answers.specs.declared.Outcome.TheVariants.{Refused, Accepted}
 use Rattle.image.specs.declared.Directory.{Directory}
-use Rattle.image.specs.declared.Loaded.{Loaded}
-use Rattle.answers.specs.Answer.{refusal_of, result_of}
+use Rattle.answers.specs.Answer.{Outcome, Refused, Accepted, refusal_of, result_of}
 use Rattle.image.specs.Directory.{no_directory}
-use Rattle.image.specs.Load.{directory_of, load_rows, refused_load, load_of}
+use Rattle.image.specs.Load.{Loaded, directory_of, load_rows, refused_load, load_of}
 use Rattle.image.specs.Write.{image_of, write_rows, Written, write_of}
 use Rattle.image.proofs.Loads.{good, load-refused, load-accepted, check-is-load}
 use Rattle.tables.specs.declared.Tables.{Tables}
 use Rattle.tables.specs.State.{read, tabled, all_zero}
 use Rattle.calls.specs.Calls.{call_of}
-use Rattle.meaning.specs.declared.Step.{Step}
 use Rattle.answers.proofs.Cases.{refused-by}
 use Rattle.meaning.specs.Rules.{directory_passes}
 use Rattle.meaning.specs.Refusals.{refusals}
 use Rattle.meaning.specs.Services.{effect}
-use Rattle.meaning.specs.Step.{refused, accepted, step_of, tables_of}
+use Rattle.meaning.specs.Step.{Step, refused, accepted, step_of, tables_of}
 use Rattle.lawful.proofs.Tested.Directory.{modules-some, passing}
 
 -- ---- An outcome that is the refusal by n, or, where n is 0, the acceptance with r.

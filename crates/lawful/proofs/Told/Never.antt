@@ -10,7 +10,7 @@ use lib.Dec.{eqb}
 use borrow.Author.Tests.{eq-eqb}
 use Rattle.words.specs.Words.{if◌then◌else◌, ◌among◌}
 use Rattle.words.specs.Rows.{Row, ◌when◌, first_of}
-use Rattle.answers.specs.declared.Outcome.TheVariants.{Refused}
+use Rattle.answers.specs.Answer.{Refused}
 use Rattle.tables.specs.declared.Tables.{Tables}
 use Rattle.tables.specs.State.{read}
 use Rattle.calls.specs.Calls.{call_of}

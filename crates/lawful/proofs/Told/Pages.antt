@@ -2,7 +2,7 @@
 -- those that give its core back, finish it or make a task in its block. By the definitions, one after the other; of the rules only that y waits for no core is asked.
 use mathlib.Core.Bool.{Bool, true, false, not, ◌&&◌, and-false, true≢false}
 use mathlib.Core.Path.{◌≡◌, refl, sym, ap, ◌∙◌}
-use mathlib.Core.Logic.{◌≢◌, ◌⊎◌, ⊎_elim}
+use mathlib.Core.Logic.{◌≢◌, ⊎_elim}
 use mathlib.Core.List.{List, [], ◌∷◌}
 use Prim.Native.Nat.{ℕ}
 use native.Mathlib.Omega.{arith}
@@ -29,7 +29,6 @@ use Rattle.lawful.proofs.Chained.Small.{none}
 use Rattle.lawful.proofs.Chained.Framed.{Any, Framed, framed, made-ready, frame-requests}
 use Rattle.lawful.proofs.Ready.Cases.{by-dispatch}
 use Rattle.lawful.proofs.Each.Given.{back-frame}
-use Rattle.lawful.proofs.Each.IoDone.{owner}
 
 -- what is kept of a block: all but its place, what it waits for, and its parent
 abbrev pub page : Task → Task

@@ -11,7 +11,7 @@ use lib.Seq.{get_or-set_same}
 use borrow.Author.Tests.{lt-ltb}
 use Rattle.words.specs.Words.{least, ◌among◌}
 use Rattle.words.proofs.Free.{least-low}
-use Rattle.answers.specs.declared.Outcome.TheVariants.{Accepted}
+use Rattle.answers.specs.Answer.{Accepted}
 use Rattle.image.specs.declared.Entry.{Entry}
 use Rattle.image.specs.Directory.{no_entry}
 use Rattle.pools.specs.Pools.{long_enough, start_of}

@@ -1,27 +1,23 @@
--- `phrases::with_range` meets its contract: a turn puts in one event, or leaves it out below the range.
-use mathlib.Core.Path.{refl}
-use Rattle.phrases.proofs.with_range.Goals.{then-first-e, else-first-e}
-use Prim.Native.Nat.{◌+◌}
+-- `phrases::with_range` meets its contract: a turn puts in one event, and there is none where the last is below the first.
+use Rattle.std.proofs.Common.{◌≡◌, ◌+◌, ◌∙◌, ℕ, refl, sym, ap, arith}
 use Rattle.phrases.specs.Events.{ranged}
-use Rattle.phrases.proofs.Ranges.{ranged-in, ranged-out, ranged-end}
-use borrow.Author.Rules.{rules}
+use Rattle.phrases.proofs.Ranges.{ranged_none, ranged_in}
 use Rattle.phrases.proofs.with_range.Goals as goal
 
 pub loop-e-init : goal.loop-e-init
-unfolding ranged
-loop-e-init c = (search rules, refl)
+loop-e-init c = (sym (ranged_none c.args.set c.args.first c.args.first (omega arith)), λ _. refl)
 
 pub loop-e-preserved : goal.loop-e-preserved
-loop-e-preserved c =
-    let s = c.args in
-    let e = c.loop-e.e in
-    let so_far = c.loop-e.invariant.1 in (
-      search rules,
-      elim c.if-first-e.branch [
-        | then-first-e w ↦ rw (w.all-is, w.adding-all.ensures, ranged-in s.set s.first e w.if-first-e.true, so_far)
-        | else-first-e w ↦ rw (w.all-is, ranged-out s.set s.first e w.if-first-e.false) so_far
-      ],
-    )
+loop-e-preserved c = (
+  rw (c.adding-all.ensures, c.loop-e.invariant.0) (sym (ranged_in c.args.set c.args.first c.loop-e.e (omega arith))),
+  λ h. absurd (omega arith),
+)
 
 pub returns : goal.returns
-returns c = ranged-end c.args.set c.args.first (c.args.last + 1) c.loop-e.e c.loop-e.all c.loop-e.invariant.1 (search rules) (search rules)
+returns c = grind (arith, ranged_none)
+
+pub returns-2 : goal.returns-2
+returns-2 c =
+    let last : c.loop-e.e ≡ c.args.last = omega arith in
+    rw (c.adding-all.ensures, c.loop-e.invariant.0)
+    (sym (ranged_in c.args.set c.args.first c.loop-e.e (omega arith)) ∙ ap (λ (n : ℕ). ranged c.args.set c.args.first (n + 1)) last)

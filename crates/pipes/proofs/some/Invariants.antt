@@ -1,9 +1,9 @@
--- `some` is safe and ends, and its count is within the buffer: each try's is, and leaves one try fewer.
-use Rattle.std.proofs.Common.{◌≤◌, length, ◌≡◌}
+-- `some` reads what its last try reads: a try that fails takes nothing from the reader.
+use Rattle.std.specs.Io.KnownBytes.{Keeps}
 use Rattle.pipes.proofs.some.Given as goal
 
-abbrev pub invariant-loop-tries : goal.invariant-loop-tries
-invariant-loop-tries g l = (l.count ≤ length l.buf) × (length l.buf ≡ length l.initial.buf)
+abbrev pub invariant-loop-read : goal.invariant-loop-read
+invariant-loop-read g l = Keeps (g.R.Read.remaining l.initial.input) (g.R.Read.remaining l.input)
 
-abbrev pub decreases-loop-tries : goal.decreases-loop-tries
-decreases-loop-tries g l = l.tries
+-- The range counts the tries,
+-- so that the loop needs no measure.

@@ -3,7 +3,4 @@ use Rattle.pointers.proofs.Marks.{Walking}
 use Rattle.pointers.proofs.walked.Given as goal
 
 abbrev pub invariant-loop-n : goal.invariant-loop-n
-invariant-loop-n l = Walking l.t l.marks l.q l.p l.y l.n
-
-abbrev pub decreases-loop-n : goal.decreases-loop-n
-decreases-loop-n l = l.n
+invariant-loop-n l = Walking l.t l.marks l.q l.p l.y l._n

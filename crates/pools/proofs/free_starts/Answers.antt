@@ -4,13 +4,9 @@ use native.Mathlib.Omega.{arith}
 use borrow.Author.Rules.{rules}
 use Rattle.pools.proofs.Search.{searching-start, searching-next}
 use Rattle.pools.proofs.free_starts.Goals as goal
-use Rattle.pools.proofs.free_starts.Goals.{then-length-more, else-length-more}
 
 pub loop-length-init : goal.loop-length-init
 loop-length-init c = searching-start c.args.granted c.args.n (search rules) c.requires.0
 
 pub loop-length-preserved : goal.loop-length-preserved
-loop-length-preserved c =
-    searching-next c.loop-length.invariant c.if-length-more.more
-    (elim c.if-length-more.branch [ then-length-more w ↦ omega arith | else-length-more w ↦ omega arith ])
-    (elim c.if-length-more.branch [ then-length-more w ↦ omega arith | else-length-more w ↦ omega arith ])
+loop-length-preserved c = searching-next c.loop-length.invariant c.min-more.result (omega arith) (omega arith)

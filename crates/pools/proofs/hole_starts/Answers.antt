@@ -4,23 +4,17 @@ use mathlib.Core.Bool.{not}
 use mathlib.Core.Path.{◌≡◌}
 use mathlib.Core.Logic.{⊎_elim}
 use Prim.Native.Nat.{◌<◌}
-use native.Mathlib.Nat.{eq-zero-or-pos, pos_of_ne-zero}
+use native.Mathlib.Nat.{eq-zero-or-pos}
 use lib.Dec.{eqb}
-use borrow.Author.Tests.{eq-eqb, eqb-true, eqb-false, not-true, not-false}
-use Rattle.words.proofs.Truth.{and_left, and_right}
-use Rattle.pools.proofs.Lengths.{lengthening-start, lengthening-next, lengthening-found, lengthening-none, shifted-less}
+use borrow.Author.Tests.{eq-eqb, eqb-true, not-false}
+use Rattle.words.proofs.Truth.{and_left}
+use Rattle.pools.proofs.Lengths.{lengthening-start, lengthening-next, lengthening-found, lengthening-none}
 use Rattle.pools.proofs.hole_starts.Goals as goal
 
 pub loop-holes-init : goal.loop-holes-init
 loop-holes-init c =
     let s = c in
     lengthening-start s.args.granted s.args.n c.free_starts-runs.result c.alone-holes.result s.requires.0 c.free_starts-runs.ensures c.alone-holes.ensures
-
-pub loop-holes-smaller : goal.loop-holes-smaller
-loop-holes-smaller c =
-    let s = c in
-    let e = eqb-false _ _ (not-true _ (and_right (eqb s.loop-holes.holes 0) (not (eqb s.loop-holes.runs 0)) c.loop-holes-test.true)) in
-    shifted-less s.loop-holes.runs (pos_of_ne-zero e)
 
 pub loop-holes-preserved : goal.loop-holes-preserved
 loop-holes-preserved c =

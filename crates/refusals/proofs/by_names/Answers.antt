@@ -1,11 +1,19 @@
--- `by_names` meets its contract: each row is gathered with its own test.
-use mathlib.Core.Path.{refl}
-use Rattle.words.proofs.Rows.{no_zero}
+-- `by_names` meets its contract: a row that applies is the first, and one that does not is passed over.
+use mathlib.Core.Path.{◌∙◌}
+use Rattle.std.proofs.lemmas.Result.{err_from_is_err_and}
+use Rattle.answers.specs.declared.Refusal.TheVariants.{NoModule}
+use Rattle.answers.proofs.Cases.{number-some}
 use Rattle.meaning.specs.Refusals.{call_rows}
 use Rattle.refusals.specs.Parts.{rows_to, rows_from}
-use Rattle.refusals.proofs.Gathered.{gathered, gathered-first}
+use Rattle.refusals.proofs.Gathered.{stops, lets, ends}
 use Rattle.refusals.proofs.by_names.Goals as goal
 
+pub returns-in_err-refuse : goal.returns-in_err-refuse
+unfolding call_rows rows_to rows_from
+returns-in_err-refuse c =
+    let p = err_from_is_err_and c.from_residual.result c.from_residual.ensures.1 in
+    rw (p.1, p.2) (stops _ _ c.in_err-refuse.ensures (number-some _) (cc))
+
 pub returns : goal.returns
-unfolding call_rows rows_to rows_from no_zero gathered
-returns c = gathered-first _ refl (cc)
+unfolding call_rows rows_to rows_from
+returns c = ends _ c.refuse-2.ensures (cc) ∙ lets _ NoModule c.in_ok-refuse.ensures (cc)

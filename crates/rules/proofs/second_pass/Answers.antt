@@ -9,5 +9,5 @@ use Rattle.rules.proofs.second_pass.Goals as goal
 pub returns : goal.returns
 unfolding second_pass link_tests queue_tests chain joined
 returns c =
-    let s = read c.args.t in
+    let s = read c.args.t.now in
     ap₂ (λ (a b : Bool). a && b) (c.links_right.ensures ∙ chain-all (link_tests s)) (c.queues_right.ensures ∙ chain-all (queue_tests s))

@@ -2,8 +2,5 @@
 use Rattle.sealed.proofs.Sums.{Running}
 use Rattle.sealed.proofs.check.Given as goal
 
-abbrev pub invariant-loop-i : goal.invariant-loop-i
-invariant-loop-i l = Running l.bytes l.total l.sum l.i
-
-abbrev pub decreases-loop-i : goal.decreases-loop-i
-decreases-loop-i l = l.i
+abbrev pub invariant-loop-byte : goal.invariant-loop-byte
+invariant-loop-byte l = Running l.bytes l.total l.sum l.byte-iterator.iter.rest.now

@@ -4,4 +4,4 @@ use Rattle.tables.proofs.all_zero.Goals as goal
 
 pub returns : goal.returns
 unfolding all_zero
-returns c = rw (← c.none.ensures) c.unused.ensures
+returns c = rw (← c.default.ensures) c.unused.ensures

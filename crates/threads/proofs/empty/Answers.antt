@@ -1,9 +1,8 @@
--- `empty` holds no block: by computing what its arrays hold.
-use borrow.Author.Rules.{rules}
-use Rattle.threads.specs.Threads.{after, before, list_of, tab, row, threaded, walk, queues_of, count, counts}
-use Rattle.words.specs.Words.{◌among◌}
+-- `empty` holds no block: each of its arrays is zeros, and what they hold is computed.
+use Rattle.threads.proofs.Zeros.{zeros, none-held}
 use Rattle.threads.proofs.empty.Goals as goal
 
 pub returns : goal.returns
-unfolding queues_of counts count walk threaded row tab after before list_of ◌among◌
-returns c = search rules
+returns c =
+    let (f, (b, (s, l))) = c.default.ensures in
+    none-held _ (zeros _ _ f.long f.at) (zeros _ _ b.long b.at) (zeros _ _ s.long s.at) (zeros _ _ l.long l.at)

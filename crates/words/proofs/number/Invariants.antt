@@ -1,9 +1,6 @@
--- `words::number` meets its contract. The bytes are taken from the high end down: so far, the value is what those from `left` on spell.
+-- `words::number` meets its contract. The bytes are taken from the high end down: so far, the value is what those behind the ones that are left spell.
 use Rattle.words.proofs.Numbers.{Spelt}
 use Rattle.words.proofs.number.Given as goal
 
-abbrev pub invariant-loop-left : goal.invariant-loop-left
-invariant-loop-left l = Spelt l.bytes l.at l.width l.left l.value
-
-abbrev pub decreases-loop-left : goal.decreases-loop-left
-decreases-loop-left l = l.left
+abbrev pub invariant-loop-byte : goal.invariant-loop-byte
+invariant-loop-byte l = Spelt l.bytes l.at l.width l.byte-iterator.iter.rest.now l.value

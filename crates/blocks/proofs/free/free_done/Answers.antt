@@ -1,23 +1,27 @@
--- `free::free_done` meets its contract: after n turns the requests 1 to n are seen to.
-use borrow.Author.Rules.{rules}
-use mathlib.Core.Path.{◌≡◌, refl}
+-- `free::free_done` meets its contract: before turn n the requests below n are seen to.
+use mathlib.Core.Path.{refl}
 use native.Mathlib.Omega.{arith}
+use Prim.Native.Nat.{◌-◌, ◌+◌}
+use mathlib.Core.Path.{◌≡◌}
 use Rattle.tables.specs.State.{read}
 use Rattle.meaning.specs.Finish.{freed_if_done, freed_done}
 use Rattle.blocks.proofs.Each.{each_none, each_next}
 use Rattle.blocks.proofs.free.free_done.Goals as goal
 
 pub loop-n-init : goal.loop-n-init
-loop-n-init c = (search rules, rw each_none (record { sound = c.requires; reads = refl }))
+loop-n-init c = rw each_none (record { sound = c.requires; reads = refl })
 
 pub free_if_done-u-requires : goal.free_if_done-u-requires
-free_if_done-u-requires c = (c.loop-n.invariant.1.sound, search rules)
+free_if_done-u-requires c = (c.loop-n.invariant.sound, omega (arith, c.loop-n-test.true))
 
 pub loop-n-preserved : goal.loop-n-preserved
 loop-n-preserved c =
     let b = c in
-    (search rules, rw (each_next (freed_if_done b.args.k) b.loop-n.n (read b.args.t), ← b.loop-n.invariant.1.reads) c.free_if_done-u.ensures)
+    let l = c.loop-n in
+    let e : l.n + 1 - 1 ≡ l.n - 1 + 1 = omega (arith, l.auto.n) in
+    let f : l.n - 1 + 1 ≡ l.n = omega (arith, l.auto.n) in
+    rw (e, each_next (freed_if_done b.args.k) (l.n - 1) (read b.args.t), ← l.invariant.reads, f) b.free_if_done-u.ensures
 
 pub returns : goal.returns
 unfolding freed_done
-returns c = let e : c.loop-n.n ≡ 16 = omega (arith, c.loop-n.invariant.0, c.loop-n-test.false) in rw e at c.loop-n.invariant.1
+returns c = let l = c.loop-n in let e : l.n - 1 ≡ 16 = omega (arith, l.auto.n-end (omega arith), c.loop-n-test.false) in rw e at l.invariant

@@ -1,23 +1,16 @@
--- `pending::pending` meets its contract: after n turns the loop has gathered whether one of the first n request blocks is pending.
-use native.Mathlib.Omega.{arith}
+-- `pending::pending` meets its contract: the closure tests each request behind the first slot, which is no block.
+use mathlib.Core.Path.{◌∙◌}
+use borrow.Author.Rules.{rules}
+use borrow.Author.Tests.{tests}
+use Rattle.std.proofs.lemmas.Iterator.{YieldsList-from_slice}
+use Rattle.std.proofs.lemmas.Iterator.Search.{any_from_yields_List}
 use Rattle.tables.specs.State.{read}
-use Rattle.meaning.specs.Finish.{pending_of, pending}
-use Rattle.blocks.proofs.Some.{some-start, some_next, some_end}
+use Rattle.tables.proofs.Lengths.{requests-long}
+use Rattle.blocks.proofs.Behind.{waited, pending-found}
 use Rattle.blocks.proofs.pending.pending.Goals as goal
 
-pub loop-n-init : goal.loop-n-init
-loop-n-init c = (omega arith, some-start (pending_of (read c.args.t) c.args.k))
-
-pub loop-n-preserved : goal.loop-n-preserved
-unfolding pending_of
-loop-n-preserved c =
-    let s = c.args in
-    let l = c.loop-n in
-    (omega arith, some_next (pending_of (read s.t) s.k) l.n l.some l.invariant.1)
-
 pub returns : goal.returns
-unfolding pending
 returns c =
     let s = c.args in
-    let l = c.loop-n in
-    some_end (pending_of (read s.t) s.k) l.n 16 l.some l.invariant.1 l.invariant.0 (omega arith)
+    any_from_yields_List (waited (read s.t) s.k) _ _ _ c.any.ensures.ran (YieldsList-from_slice _ c.iter.ensures.rest) (λ x b q k. (search rules, search (rules, tests)))
+    ∙ pending-found (read s.t) s.k (requests-long s.t _ c.well_formed.0)

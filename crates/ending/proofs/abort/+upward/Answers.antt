@@ -3,15 +3,15 @@ use native.Mathlib.Omega.{arith}
 use Rattle.ending.proofs.Aborts.{abort-left, step-last, step-asks, step-tells}
 use Rattle.ending.proofs.abort.+upward.Goals as goal
 
-pub returns-then-gone-eq0 : goal.returns-then-gone-eq0
-returns-then-gone-eq0 t c = step-last c.requires c.one-gone.ensures c.if-gone-eq0.true
+pub returns-then-parent-eq0 : goal.returns-then-parent-eq0
+returns-then-parent-eq0 t c = step-last c.requires c.one.ensures c.if-parent-eq0.true
 
 pub overflow_sub-left : goal.overflow_sub-left
 overflow_sub-left t c = abort-left c.args.left c.requires.1
 
 pub upward-requires : goal.upward-requires
 upward-requires t c =
-    (omega (arith, abort-left c.args.left c.requires.1, c.decreases), step-asks c.requires c.one-gone.ensures c.if-gone-eq0.false)
+    (omega (arith, abort-left c.args.left c.requires.1, c.decreases), step-asks c.requires c.one.ensures c.if-parent-eq0.false)
 
 pub returns : goal.returns
-returns t c = step-tells c.requires c.one-gone.ensures _ c.upward.ensures
+returns t c = step-tells c.requires c.one.ensures _ c.upward.ensures

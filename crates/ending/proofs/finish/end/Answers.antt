@@ -14,5 +14,5 @@ returns c =
     let s = c in
     record {
       sound = s.requires.sound;
-      reads = rw (sym c.pending.ensures ∙ c.if-not-pending.false) (ap (with_task (read s.args.t) s.args.k) c.moving-x.ensures);
+      reads = rw (sym c.pending.ensures ∙ c.if-not-pending.false) (ap (with_task (read s.args.t) s.args.k) c.moving.ensures);
     }

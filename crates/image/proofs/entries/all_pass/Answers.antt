@@ -6,12 +6,12 @@ use Rattle.image.proofs.entries.all_pass.Goals as goal
 
 pub loop-i-init : goal.loop-i-init
 unfolding entries_pass
-loop-i-init c = (search rules, gather-start _)
+loop-i-init c = gather-start _
 
 pub loop-i-preserved : goal.loop-i-preserved
 unfolding entries_pass
-loop-i-preserved c = (search rules, gather-next _ c.loop-i.i _ _ c.loop-i.invariant.1 c.passes-all.ensures)
+loop-i-preserved c = gather-next _ c.loop-i.i _ _ c.loop-i.invariant c.passes-all.ensures
 
 pub returns : goal.returns
 unfolding entries_pass
-returns c = gather-end _ _ _ _ c.loop-i.invariant.1 (search rules) (search rules)
+returns c = gather-end _ _ _ _ c.loop-i.invariant (search rules) (search rules)

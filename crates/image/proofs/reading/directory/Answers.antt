@@ -9,14 +9,13 @@ use Rattle.image.specs.Load.{entry_from, directory_of}
 use Rattle.image.proofs.reading.directory.Goals as goal
 
 pub loop-m-init : goal.loop-m-init
-loop-m-init c = (search rules, refl, fill_start _ (c.entry-first.result ∷ []))
+loop-m-init c = (refl, fill_start _ (c.default-entries.result ∷ []))
 
 pub loop-m-preserved : goal.loop-m-preserved
 loop-m-preserved c = (
-  search rules,
-  simp length-set c.loop-m.invariant.1,
+  simp length-set c.loop-m.invariant.0,
   fill-next (entry_from c.args.bytes.now) c.loop-m.entries c.loop-m.m c.entry.result
-      (omega (arith, c.loop-m.invariant.1)) c.loop-m.invariant.2 c.entry.ensures,
+      (omega (arith, c.loop-m.invariant.0)) c.loop-m.invariant.1 c.entry.ensures,
 )
 
 pub overflow_cast-result : goal.overflow_cast-result
@@ -29,4 +28,4 @@ pub returns : goal.returns
 unfolding directory_of
 returns c =
     let l = c in
-    rw (c.number.ensures, fill_end (entry_from l.args.bytes.now) l.loop-m.entries 32 l.loop-m.m l.loop-m.invariant.1 (search rules) (search rules) l.loop-m.invariant.2)
+    rw (c.number.ensures, fill_end (entry_from l.args.bytes.now) l.loop-m.entries 32 l.loop-m.m l.loop-m.invariant.0 (search rules) (search rules) l.loop-m.invariant.1)

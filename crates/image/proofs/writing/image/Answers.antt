@@ -10,19 +10,18 @@ use Rattle.image.proofs.Writes.{image-made}
 use Rattle.image.proofs.writing.image.Goals as goal
 
 pub loop-i-init : goal.loop-i-init
-loop-i-init c = (search rules, refl, fill_start _ (0 ∷ []))
+loop-i-init c = (refl, fill_start _ (0 ∷ []))
 
 pub byte-requires : goal.byte-requires
 byte-requires c = (search rules, c.requires)
 
 pub loop-i-preserved : goal.loop-i-preserved
 loop-i-preserved c = (
-  search rules,
-  simp length-set c.loop-i.invariant.1,
-  fill-next (byte_of c.args.d) c.loop-i.out c.loop-i.i c.byte.result (omega (arith, c.loop-i.invariant.1)) c.loop-i.invariant.2 c.byte.ensures,
+  simp length-set c.loop-i.invariant.0,
+  fill-next (byte_of c.args.d) c.loop-i.out c.loop-i.i c.byte.result (omega (arith, c.loop-i.invariant.0)) c.loop-i.invariant.1 c.byte.ensures,
 )
 
 pub returns : goal.returns
 returns c =
     let l = c in
-    image-made l.args.d l.loop-i.out l.loop-i.i (search rules) l.loop-i.invariant.2 c.seal.ensures
+    image-made l.args.d l.loop-i.out l.loop-i.i (search rules) l.loop-i.invariant.1 c.seal.ensures

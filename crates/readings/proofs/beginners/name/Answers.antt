@@ -1,10 +1,10 @@
 -- `name` meets its contract: the number behind a space where the block is one of them, and nothing where it is not.
 use mathlib.Core.List.{append-nil}
-use native.Mathlib.Omega.{arith}
+use Rattle.std.proofs.Common.{arith}
 use Rattle.text.specs.Decimals.{spelling}
 use Rattle.text.proofs.Spelling.{short}
 use Rattle.readings.specs.Readings.{names_of}
-use Rattle.readings.proofs.Behind.{fits-none}
+use Rattle.lines.proofs.Behind.{fits-none}
 use Rattle.readings.proofs.beginners.name.Goals as goal
 
 pub returns-then-begins : goal.returns-then-begins

@@ -1,4 +1,4 @@
--- `core::seat` meets its contract: the first of the core queue says whether anyone waits.
+-- `core_units::seat` meets its contract: the first of the core queue says whether anyone waits.
 use mathlib.Core.Path.{sym, ◌∙◌}
 use native.Mathlib.Omega.{arith}
 use Rattle.tables.specs.State.{read, queue, core_queue}

@@ -29,5 +29,5 @@ returns c =
     let l = c.leave-r.ensures in
     record {
       sound = l.sound;
-      reads = runs (read s.args.t) _ s.args.level c.first_of-k.ensures l.reads c.moving-x.ensures;
+      reads = runs (read s.args.t) _ s.args.level c.first_of-k.ensures l.reads c.moving.ensures;
     }

@@ -20,8 +20,8 @@ returns-then-not-needs c =
     let n = needs-as (read s.args.t) s.args.k e c.needs.ensures ∙ c.if-not-needs.true in
     rw (ready-now (read s.args.t) s.args.k e n) c.put_in.ensures
 
-pub seat-seat-requires : goal.seat-seat-requires
-seat-seat-requires c =
+pub seat-requires : goal.seat-requires
+seat-requires c =
     let p = c.requires in
     (p.held.sound, rw c.entry_of-e.ensures p.worst)
 
@@ -40,14 +40,14 @@ returns-in_default c =
     let s = c in
     let e = c.entry_of-e.ensures in
     let n = needs-as (read s.args.t) s.args.k e c.needs.ensures ∙ c.if-not-needs.false in
-    let f = sym c.seat-seat.ensures ∙ c.in_default.is in
+    let f = sym c.seat.ensures ∙ c.in_default.is in
     rw (ready-later (read s.args.t) s.args.k e n f) c.put_in-in_default.ensures
 
 pub grant-u-requires : goal.grant-u-requires
 grant-u-requires c =
     let s = c in
     let e = c.entry_of-e.ensures in
-    let h = seat-start (read s.args.t) s.args.k e (sym c.seat-seat.ensures ∙ c.in-At.is) in (
+    let h = seat-start (read s.args.t) s.args.k e (sym c.seat.ensures ∙ c.in-Some.is) in (
       record {
         low = s.requires.low;
         worst = rw e s.requires.worst;
@@ -72,5 +72,5 @@ returns c =
     let s = c in
     let e = c.entry_of-e.ensures in
     let n = needs-as (read s.args.t) s.args.k e c.needs.ensures ∙ c.if-not-needs.false in
-    let f = sym c.seat-seat.ensures ∙ c.in-At.is in
+    let f = sym c.seat.ensures ∙ c.in-Some.is in
     rw (ready-seated (read s.args.t) s.args.k e n f, ← c.grant-u.ensures.reads) c.put_in-2.ensures

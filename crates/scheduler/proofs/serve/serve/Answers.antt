@@ -22,14 +22,14 @@ returns-in_default c =
     let i = c.loop-k.invariant in
     let n = c.loop-k-test.true in
     let e = ap (λ (x : Entry). x.units) c.entry_of-e.ensures in
-    turn-stop i n e (sym c.find-found.ensures ∙ c.in_default.is)
+    turn-stop i n e (sym c.find.ensures ∙ c.in_default.is)
 
 pub serve_one-u-requires : goal.serve_one-u-requires
 serve_one-u-requires c =
     let i = c.loop-k.invariant in
     let n = c.loop-k-test.true in
     let e = ap (λ (x : Entry). x.units) c.entry_of-e.ensures in
-    let f = turn_at i n e (sym c.find-found.ensures ∙ c.in-At.is) in
+    let f = turn_at i n e (sym c.find.ensures ∙ c.in-Some.is) in
     record {
       best = i.waiters.best;
       worst = i.waiters.worst;
@@ -52,7 +52,7 @@ pub loop-k-preserved : goal.loop-k-preserved
 loop-k-preserved c =
     let b = c in
     let e = ap (λ (x : Entry). x.units) c.entry_of-e.ensures in
-    let f = turn-fits b.loop-k.invariant b.loop-k-test.true e (sym c.find-found.ensures ∙ c.in-At.is) in
+    let f = turn-fits b.loop-k.invariant b.loop-k-test.true e (sym c.find.ensures ∙ c.in-Some.is) in
     turn-next b.loop-k.invariant b.loop-k-test.true c.serve_one-u.ensures f c.first_of-k-in-loop-k.ensures
 
 pub returns : goal.returns

@@ -7,8 +7,8 @@ use Rattle.scheduler.proofs.serve.unseat.Goals as goal
 pub bounds-r-e : goal.bounds-r-e
 bounds-r-e c = let b = c in rw b.entry_of-e.ensures (omega (arith, b.requires.1.waiters.worst))
 
-pub give_back-p-requires : goal.give_back-p-requires
-give_back-p-requires c =
+pub give_back-requires : goal.give_back-requires
+give_back-requires c =
     let s = c in
     held-run (read s.args.t) s.args.k c.entry_of-e.ensures s.requires.1 s.requires.2
 
@@ -20,5 +20,5 @@ returns c =
     let s = c in
     record {
       sound = s.requires.0;
-      reads = unseated-as (read s.args.t) s.args.k c.entry_of-e.ensures c.give_back-p.ensures;
+      reads = unseated-as (read s.args.t) s.args.k c.entry_of-e.ensures c.give_back.ensures;
     }

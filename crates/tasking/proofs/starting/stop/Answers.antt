@@ -9,4 +9,4 @@ pub returns : goal.returns
 unfolding stopped
 returns c =
     let a = c in
-    record { sound = a.requires.0; reads = ap (λ (x : Task). with_running (with_task (read a.args.t) a.args.t.running x) 0) c.moving-x.ensures }
+    record { sound = a.requires.0; reads = ap (λ (x : Task). with_running (with_task (read a.args.t) a.args.t.running x) 0) c.moving.ensures }

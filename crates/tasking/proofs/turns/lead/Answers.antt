@@ -2,4 +2,4 @@
 use Rattle.tasking.proofs.turns.lead.Goals as goal
 
 pub returns : goal.returns
-returns c = let e = c.push-h.ensures in record { sound = e.sound; reads = rw e.lists }
+returns c = let e = c.push-r.ensures in record { sound = e.sound; reads = rw e.lists }

@@ -6,7 +6,7 @@ use Rattle.tasking.proofs.Ticks.{clock-shape}
 use Rattle.tasking.proofs.turns.timer.Goals as goal
 
 pub overflow_add-u : goal.overflow_add-u
-overflow_add-u c = omega (arith, c.requires.1, c.struct_known-1)
+overflow_add-u c = omega (arith, c.requires.1)
 
 pub nonzero_rem-u : goal.nonzero_rem-u
 nonzero_rem-u c = omega (arith, c.requires.0.state.shape.directory.every)
@@ -16,10 +16,10 @@ wake_time-requires c =
     let g = c.requires.0 in
     (g.pointers, clock-shape _ (omega arith) g.state.shape)
 
-pub returns-then-u-d-eq0 : goal.returns-then-u-d-eq0
+pub returns-then-u-eq0 : goal.returns-then-u-eq0
 unfolding timer
-returns-then-u-d-eq0 c = λ d. rw (eq-eqb _ _ c.if-u-d-eq0.true) c.wake_time.ensures
+returns-then-u-eq0 c = λ d. rw (eq-eqb _ _ c.if-u-eq0.true) c.wake_time.ensures
 
 pub returns : goal.returns
 unfolding timer
-returns c = λ d. record { sound = c.requires.0.pointers; reads = rw (ne_eqb _ _ c.if-u-d-eq0.false) }
+returns c = λ d. record { sound = c.requires.0.pointers; reads = rw (ne_eqb _ _ c.if-u-eq0.false) }

@@ -1,17 +1,15 @@
--- `decimals::all_digits` meets its contract: all are digits where those that are left are, the laws of `Digits`.
-use mathlib.Core.Path.{sym, ◌∙◌}
-use Rattle.text.proofs.Digits.{check-start, check-next, check-stop, check-end}
-use borrow.Author.Rules.{rules}
+-- `decimals::all_digits` meets its contract: what `all` answers, and that there is one.
+use Rattle.std.proofs.Common.{rules, tests, ◌∙◌}
+use Rattle.std.proofs.lemmas.Iterator.{YieldsList-from_slice}
+use Rattle.std.proofs.lemmas.Iterator.Search.{all_from_yields_List}
+use Rattle.text.specs.Decimals.{is_digit}
+use Rattle.text.proofs.Digits.{digits-some, digits-none}
 use Rattle.text.proofs.decimals.all_digits.Goals as goal
 
-pub loop-i-init : goal.loop-i-init
-loop-i-init c = check-start _
+pub returns-then-not-is_empty : goal.returns-then-not-is_empty
+returns-then-not-is_empty c =
+    let l = c.args.bytes.now in
+    all_from_yields_List is_digit _ _ c.all.result c.all.ensures.ran (YieldsList-from_slice l cc) (λ x b q k. search (rules, tests)) ∙ digits-some l (search rules)
 
-pub returns-then-not-is_digit : goal.returns-then-not-is_digit
-returns-then-not-is_digit c = check-stop c.loop-i.invariant (search rules) (sym c.is_digit.ensures ∙ c.if-not-is_digit.true)
-
-pub loop-i-preserved : goal.loop-i-preserved
-loop-i-preserved c = check-next c.loop-i.invariant (search rules) (sym c.is_digit.ensures ∙ c.if-not-is_digit.false)
-
-pub returns : goal.returns
-returns c = check-end c.loop-i.invariant (search rules)
+pub returns-else-not-is_empty : goal.returns-else-not-is_empty
+returns-else-not-is_empty c = rw c.if-not-is_empty.false (digits-none c.args.bytes.now (search rules))

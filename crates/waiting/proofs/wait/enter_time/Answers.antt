@@ -1,23 +1,18 @@
--- `wait::enter_time` meets its contract: the keys are the times, of the block itself and of all that stand in the queue.
+-- `wait::enter_time` meets its contract: the block itself and all that stand in the queue are task blocks, so that they have times.
+use borrow.Author.Rules.{rules}
 use native.Mathlib.Omega.{arith}
-use lib.ListN.{get_or}
-use mathlib.Core.Path.{ap}
-use Rattle.tables.specs.State.{read, queue, time_queue, task_at, with_queue}
+use Prim.Native.Nat.{◌<◌}
+use Rattle.tables.specs.State.{read, task_at, queue, time_queue}
 use Rattle.meaning.specs.Conditions.{in_time}
-use Rattle.blocks.proofs.Placed.{placed_same}
+use Rattle.blocks.proofs.Asked.{asked_each}
 use Rattle.waiting.proofs.wait.enter_time.Goals as goal
+
+pub enter-r-requires : goal.enter-r-requires
+enter-r-requires c =
+    let r = c.requires in
+    let low = asked_each (λ y. y < 25) c.args.k (queue (read c.args.t) time_queue) r.2 (λ y. r.0.fit.tasks time_queue y (omega arith)) in
+    record { block = r.1; asked = λ y h. let l : y < 25 = low y h in (λ κs p a b. omega (arith, l), λ κs p a b. l) }
 
 pub returns : goal.returns
 unfolding in_time
-returns c =
-    let s = c in
-    let e = c.enter-h.ensures in
-    let m = c.times.ensures in
-    record {
-      sound = e.sound;
-      reads =
-          rw e.lists
-          (ap (with_queue (read s.args.t) time_queue)
-          (placed_same (λ y. get_or c.times.result y 0) (λ a. (task_at (read s.args.t) a).time) s.args.k (queue (read s.args.t) time_queue) (m s.args.k s.requires.2)
-          (λ y h. m y (s.requires.0.fit.tasks time_queue y (omega arith) h))));
-    }
+returns c = let e = c.enter-r.ensures (λ y. (task_at (read c.args.t) y).time) (λ y z h p. search rules) in record { sound = e.sound; reads = rw e.lists }

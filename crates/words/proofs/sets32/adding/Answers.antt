@@ -1,6 +1,0 @@
--- `words::sets32::adding` meets its contract: to set a bit is to add the number.
-use Rattle.words.proofs.Changes.{bit-set}
-use Rattle.words.proofs.sets32.adding.Goals as goal
-
-pub returns : goal.returns
-returns c = bit-set 32 c.args.set c.args.e c.requires
