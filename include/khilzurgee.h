@@ -22,8 +22,8 @@
    the two and not both: each has the two checks. Both are for x86-64 Linux
    and need nothing but the C library.
 
-   The stack: a call was measured to take up to 56,440 bytes of it, a load
-   2,536 and the image check 872. 'bench/stack' measures it again, and fails
+   The stack: a call was measured to take up to 45,928 bytes of it, a load
+   2,088 and the image check 904. 'bench/stack' measures it again, and fails
    where a function takes more than 40 KiB, as a call does today. */
 #ifndef KHILZURGEE_H
 #define KHILZURGEE_H

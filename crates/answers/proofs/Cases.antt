@@ -72,7 +72,7 @@ number-some e h = let pending : Pending ≡ e = ap numbered (sym h) ∙ numbered
     let z : number Pending ≡ 0 = ap number pending ∙ h in omega (arith, z)
 
 -- an answer is that of one result
-pub answered-once : (r s : Result ℕ Refusal) → answered r ≡ answered s → r ≡ s
+pub answered-once : (r s : Result ℕ Refusal) → answered number r ≡ answered number s → r ≡ s
 answered-once (Ok a) (Ok b) h = ap Ok (ap result_of h)
 answered-once (Ok a) (Err f) h = absurd (number-some f (sym (ap refusal_of h)))
 answered-once (Err e) (Ok b) h = absurd (number-some e (ap refusal_of h))

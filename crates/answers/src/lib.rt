@@ -1,9 +1,10 @@
 // The answer to a load, a write or a call: refused by a number, or accepted with a result.
 //
-// It has the refusals alone, each with its number, which specs/ has as documents 01 and 02 have it. It knows nothing of images, calls or tables.
+// It has the refusals, each with its number, which specs/ has as documents 01 and 02 have it, and the trait of all that has such a number. It knows nothing of
+// images, calls or tables.
 #![tactic(auto)]
 
-ghost use Rattle.std.specs.Prelude.{◌≡◌};
+ghost use Rattle.std.specs.Prelude.{◌≡◌, ℕ};
 ghost use Rattle.answers.specs.Answer.{number};
 
 // Why an image, a directory or a call is refused. Another refusal is one more case here, with its number below and in specs/.
@@ -68,5 +69,29 @@ impl From<Refusal> for u8 {
             Refusal::NoCode => 24,
             Refusal::Pending => 25,
         }
+    }
+}
+
+// What an answer can be refused by: a `Refusal`, or, where a caller keeps numbers, any number.
+pub trait Numbered: Copy {
+    ghost numbered: { Self → ℕ };
+
+    fn numbered(self) -> u8
+        ensures { result ≡ numbered self };
+}
+
+impl Numbered for Refusal {
+    ghost numbered = { λ refusal. number refusal };
+
+    fn numbered(self) -> u8 {
+        u8::from(self)
+    }
+}
+
+impl Numbered for u8 {
+    ghost numbered = { λ refusal. refusal };
+
+    fn numbered(self) -> u8 {
+        self
     }
 }

@@ -8,6 +8,8 @@ use native.Mathlib.Omega.{arith}
 use lib.Dec.{eqb}
 use lib.ListN.{length, get_or}
 use borrow.Author.Tests.{eqb-true}
+use denote.RattleType.{RattleType}
+use denote.Param.Laws.{Laws, IsCopy}
 use Rattle.std.specs.Prelude.{Result, Ok, Err}
 use Rattle.words.specs.Words.{if◌then◌else◌}
 use Rattle.words.proofs.Once.{OneAnswer}
@@ -58,8 +60,10 @@ one_answer r s ns p q =
     let same : whole r.refusal r.result r.running ≡ whole s.refusal s.result s.running = cc in
     same
 
-pub numbers-only : OneAnswer numbers.Post
-numbers-only κs given r s end end' p q = one_answer r s _ p q
+-- whatever refuses: a refusal, or any number
+pub numbers-only : (N : RattleType) (laws : Laws N) (copy : IsCopy N) (by : _) (dict : _) (clone : _) (cloned : _)
+    → OneAnswer (numbers.Post N laws copy by dict clone cloned)
+numbers-only N laws copy by dict clone cloned κs given r s end end' p q = one_answer r s _ p q
 
 pub is-known-only : OneAnswer is_Known.Post
 is-known-only κs given r s end end' p q = p ∙ sym q

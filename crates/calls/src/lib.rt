@@ -9,7 +9,7 @@ ghost use Rattle.std.specs.Prelude.{[], ◌∷◌, ◌≡◌, Ok};
 ghost use Rattle.answers.specs.Answer.{answered};
 ghost use Rattle.calls.specs.Calls.{arrival, numbers};
 
-use answers::Refusal;
+use answers::{Numbered, Refusal};
 
 // A call: which it is, and its fields, used or not.
 #[derive(Clone, Copy, Debug, PartialEq, Eq, Default)]
@@ -80,9 +80,9 @@ impl From<Call> for [u8; 16] {
     }
 }
 
-// The numbers of an answer while `running` is the running task; with refusal 9 no task is named.
-pub fn numbers(outcome: Result<u8, Refusal>, running: u8) -> Answer
-    ensures { result.refusal ∷ result.result ∷ result.running ∷ [] ≡ numbers (answered outcome) running }
+// The numbers of an answer while `running` is the running task; with refusal 9 no task is named. A caller that keeps numbers can give any.
+pub fn numbers<N: Numbered>(outcome: Result<u8, N>, running: u8) -> Answer
+    ensures { result.refusal ∷ result.result ∷ result.running ∷ [] ≡ numbers (answered N.numbered outcome) running }
 {
     match outcome {
         Ok(result) => Answer {
@@ -90,13 +90,12 @@ pub fn numbers(outcome: Result<u8, Refusal>, running: u8) -> Answer
             result,
             running,
         },
-        Err(refusal) => {
-            let named = match refusal {
-                Refusal::Rules => 0,
-                _ => running,
-            };
+        Err(refused) => {
+            let refusal = refused.numbered();
+            let broken = u8::from(Refusal::Rules);
+            let named = if refusal == broken { 0 } else { running };
             Answer {
-                refusal: u8::from(refusal),
+                refusal,
                 result: 0,
                 running: named,
             }

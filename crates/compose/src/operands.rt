@@ -1,7 +1,7 @@
 // What follows a line's first word, by its shape: the numbers of a call, or the module of a line of the image. Numbers that a line does not name are 0.
-ghost use Rattle.std.specs.Prelude.{◌≤◌};
+ghost use Rattle.std.specs.Prelude.{◌≤◌, IfOk};
 ghost use Rattle.compose.specs.Calls.{Follows};
-ghost use Rattle.compose.specs.Words.{Further};
+ghost use Rattle.compose.specs.Words.{Further, Quotes};
 
 use crate::events;
 use crate::scan::Scan;
@@ -14,6 +14,7 @@ use image::Entry;
 fn number<'a>(scan: &mut Scan<'a>) -> Result<Call, Wrong<'a>>
     ensures further { Further scan.old scan.new }
     ensures kind { Follows result }
+    ensures quotes { Quotes scan.old.line.now result }
 {
     Ok(Call {
         number: scan.byte()?,
@@ -25,6 +26,7 @@ fn number<'a>(scan: &mut Scan<'a>) -> Result<Call, Wrong<'a>>
 fn switch<'a>(scan: &mut Scan<'a>) -> Result<Call, Wrong<'a>>
     ensures further { Further scan.old scan.new }
     ensures kind { Follows result }
+    ensures quotes { Quotes scan.old.line.now result }
 {
     let number = scan.byte()?;
     let on = scan.option(b"on");
@@ -42,6 +44,7 @@ fn switch<'a>(scan: &mut Scan<'a>) -> Result<Call, Wrong<'a>>
 fn device<'a>(scan: &mut Scan<'a>) -> Result<Call, Wrong<'a>>
     ensures further { Further scan.old scan.new }
     ensures kind { Follows result }
+    ensures quotes { Quotes scan.old.line.now result }
 {
     scan.expect(b"device", Fault::WantsDevice)?;
     let number = scan.byte()?;
@@ -59,6 +62,7 @@ fn device<'a>(scan: &mut Scan<'a>) -> Result<Call, Wrong<'a>>
 fn when<'a>(scan: &mut Scan<'a>) -> Result<Call, Wrong<'a>>
     ensures further { Further scan.old scan.new }
     ensures kind { Follows result }
+    ensures quotes { Quotes scan.old.line.now result }
 {
     let value = scan.byte()?;
     scan.expect(b"of", Fault::WantsOf)?;
@@ -75,6 +79,7 @@ fn timed<'a>(scan: &mut Scan<'a>, kind: u8) -> Result<Call, Wrong<'a>>
     requires { kind ≤ 3 }
     ensures further { Further scan.old scan.new }
     ensures kind { Follows result }
+    ensures quotes { Quotes scan.old.line.now result }
 {
     Ok(Call {
         kind,
@@ -87,6 +92,7 @@ fn timed<'a>(scan: &mut Scan<'a>, kind: u8) -> Result<Call, Wrong<'a>>
 fn condition<'a>(scan: &mut Scan<'a>) -> Result<Call, Wrong<'a>>
     ensures further { Further scan.old scan.new }
     ensures kind { Follows result }
+    ensures quotes { Quotes scan.old.line.now result }
 {
     if scan.option(b"when") {
         return when(scan);
@@ -102,6 +108,7 @@ fn condition<'a>(scan: &mut Scan<'a>) -> Result<Call, Wrong<'a>>
 fn scheduled<'a>(scan: &mut Scan<'a>) -> Result<Call, Wrong<'a>>
     ensures further { Further scan.old scan.new }
     ensures kind { Follows result }
+    ensures quotes { Quotes scan.old.line.now result }
 {
     let number = scan.byte()?;
     let rest = if scan.ended() {
@@ -116,6 +123,7 @@ fn scheduled<'a>(scan: &mut Scan<'a>) -> Result<Call, Wrong<'a>>
 fn bare<'a>(scan: &mut Scan<'a>, name: &[u8], fault: Fault) -> Result<Call, Wrong<'a>>
     ensures further { Further scan.old scan.new }
     ensures kind { Follows result }
+    ensures quotes { Quotes scan.old.line.now result }
 {
     scan.expect(name, fault)?;
     Ok(Call::default())
@@ -126,6 +134,7 @@ fn bare<'a>(scan: &mut Scan<'a>, name: &[u8], fault: Fault) -> Result<Call, Wron
 pub fn read<'a>(scan: &mut Scan<'a>, shape: Shape) -> Result<Call, Wrong<'a>>
     ensures further { Further scan.old scan.new }
     ensures kind { Follows result }
+    ensures quotes { Quotes scan.old.line.now result }
 {
     match shape {
         Shape::Bare => Ok(Call::default()),
@@ -141,7 +150,8 @@ pub fn read<'a>(scan: &mut Scan<'a>, shape: Shape) -> Result<Call, Wrong<'a>>
 
 // Any call, by its six numbers: code, kind, number, value, amount, set.
 pub fn any<'a>(scan: &mut Scan<'a>) -> Result<Call, Wrong<'a>>
-    ensures { Further scan.old scan.new }
+    ensures further { Further scan.old scan.new }
+    ensures quotes { Quotes scan.old.line.now result }
 {
     Ok(Call {
         code: scan.byte()?,
@@ -155,7 +165,9 @@ pub fn any<'a>(scan: &mut Scan<'a>) -> Result<Call, Wrong<'a>>
 
 // module: its level and units, perhaps 'reentrant' as its flag, perhaps an entry point.
 pub fn module<'a>(scan: &mut Scan<'a>) -> Result<Entry, Wrong<'a>>
-    ensures { Further scan.old scan.new }
+    ensures further { Further scan.old scan.new }
+    ensures flags { IfOk result (λ e. e.flags ≤ 1) }
+    ensures quotes { Quotes scan.old.line.now result }
 {
     scan.expect(b"level", Fault::WantsLevel)?;
     let level = scan.byte()?;

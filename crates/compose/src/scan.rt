@@ -14,9 +14,9 @@ pub struct Scan<'a> {
 }
 
 impl<'a> Scan<'a> {
-    ghost use Rattle.std.specs.Prelude.{◌≡◌, ◌+◌, ◌↔◌, IsTrue, IsOk, IfOk};
-    ghost use Rattle.phrases.specs.Words.{Next};
-    ghost use Rattle.compose.specs.Words.{Further, Ended};
+    ghost use Rattle.std.specs.Prelude.{◌≡◌, ◌+◌, ◌↔◌, IsTrue, IsOk, IfOk, false};
+    ghost use Rattle.phrases.specs.Words.{Next, bytes_of};
+    ghost use Rattle.compose.specs.Words.{Further, Ended, Quotes, next_word};
 
     pub fn new(line: &'a [u8]) -> Scan<'a>
         ensures line { result.line.now ≡ line.now }
@@ -55,6 +55,9 @@ impl<'a> Scan<'a> {
     // The next word may be this one: then it is passed.
     pub fn option(&mut self, name: &[u8]) -> bool
         ensures further { Further self.old self.new }
+        ensures taken { IsTrue result ↔ bytes_of self.old.line.now (next_word self.old) ≡ name.now }
+        ensures behind { IsTrue result → self.new.at ≡ (next_word self.old).to }
+        ensures left { result ≡ false → self.new ≡ self.old }
         ensures passed { IsTrue result → self.old.at + length name.now ≤ self.new.at }
     {
         let word = self.next();
@@ -67,7 +70,8 @@ impl<'a> Scan<'a> {
 
     // The next word has to be this one; where it is not, that is the fault.
     pub fn expect(&mut self, name: &[u8], fault: Fault) -> Result<(), Wrong<'a>>
-        ensures { Further self.old self.new }
+        ensures further { Further self.old self.new }
+        ensures quotes { Quotes self.old.line.now result }
     {
         if self.option(name) {
             Ok(())
@@ -80,6 +84,7 @@ impl<'a> Scan<'a> {
     pub fn number(&mut self, most: u64) -> Result<u64, Wrong<'a>>
         ensures further { Further self.old self.new }
         ensures low { IfOk result (λ n. n ≤ most) }
+        ensures quotes { Quotes self.old.line.now result }
     {
         let word = self.next();
         match phrases::number(self.line, word, most) {
@@ -94,21 +99,24 @@ impl<'a> Scan<'a> {
 
     // A number of one byte.
     pub fn byte(&mut self) -> Result<u8, Wrong<'a>>
-        ensures { Further self.old self.new }
+        ensures further { Further self.old self.new }
+        ensures quotes { Quotes self.old.line.now result }
     {
         Ok(self.number(255)? as u8)
     }
 
     // A number of four bytes.
     pub fn amount(&mut self) -> Result<u32, Wrong<'a>>
-        ensures { Further self.old self.new }
+        ensures further { Further self.old self.new }
+        ensures quotes { Quotes self.old.line.now result }
     {
         Ok(self.number(4294967295)? as u32)
     }
 
     // The line has to end here.
     pub fn end(&self) -> Result<(), Wrong<'a>>
-        ensures { IsOk result ↔ Ended self.now }
+        ensures ended { IsOk result ↔ Ended self.now }
+        ensures quotes { Quotes self.now.line.now result }
     {
         if self.ended() {
             Ok(())

@@ -1,4 +1,6 @@
 // A session as it is read: the line so far, the image so far, and what each line does.
+ghost use Rattle.compose.specs.Words.{Further, Quotes};
+
 use crate::scan::Scan;
 use crate::verbs::Verb;
 use crate::{events, made, operands, verbs};
@@ -109,7 +111,10 @@ fn out_of_place(s: &Session, verb: Verb) -> Option<Fault> {
 
 // What stands behind a first word. The match stays: its cases are an enum's, and a closure for each row would have to be stored in the table and handed out,
 // which the toolchain refuses.
-fn behind<'a>(scan: &mut Scan<'a>, verb: Verb) -> Result<Says, Wrong<'a>> {
+fn behind<'a>(scan: &mut Scan<'a>, verb: Verb) -> Result<Says, Wrong<'a>>
+    ensures further { Further scan.old scan.new }
+    ensures quotes { Quotes scan.old.line.now result }
+{
     Ok(match verb {
         Verb::Every => Says::Every(scan.byte()?),
         Verb::Events => Says::Events(events::list(scan)?),
@@ -120,7 +125,9 @@ fn behind<'a>(scan: &mut Scan<'a>, verb: Verb) -> Result<Says, Wrong<'a>> {
 }
 
 // What a line says, without its comment: nothing where no word is in it.
-fn understood<'a>(s: &Session, line: &'a [u8]) -> Result<Option<Says>, Wrong<'a>> {
+fn understood<'a>(s: &Session, line: &'a [u8]) -> Result<Option<Says>, Wrong<'a>>
+    ensures { Quotes line.now result }
+{
     let mut scan = Scan::new(line);
     let first = scan;
     if scan.ended() {

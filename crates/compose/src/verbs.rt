@@ -1,6 +1,7 @@
 // The lines of a session, by their first words: one table.
-ghost use Rattle.std.specs.Prelude.{◌≡◌, true, IfSome};
+ghost use Rattle.std.specs.Prelude.{◌≡◌, true, IfSome, IsNone};
 ghost use Rattle.compose.specs.Calls.{verb_known};
+ghost use Rattle.compose.specs.Words.{Further, next_word};
 
 use crate::scan::Scan;
 use calls::codes;
@@ -57,7 +58,10 @@ const ROWS: [Row; 19] = [
 
 // What the next word stands for, which is then passed; none where no row has it.
 pub fn find(scan: &mut Scan<'_>) -> Option<Verb>
-    ensures { IfSome result (λ v. verb_known v ≡ true) }
+    ensures known { IfSome result (λ v. verb_known v ≡ true) }
+    ensures further { Further scan.old scan.new }
+    ensures behind { IfSome result (λ v. scan.new.at ≡ (next_word scan.old).to) }
+    ensures left { IsNone result → scan.new ≡ scan.old }
 {
     for row in &ROWS {
         if scan.option(row.0) {

@@ -51,5 +51,5 @@ unfolding line_of load_line tables_of
 begun-line holes b = rw (none_runs (eqb (refusal_of (load_of b).outcome) 0) holes (load_of b).directory)
 
 -- what is stored of a load: its line and its tables
-pub begun-stored : (holes : ℕ) (b : List ℕ) (next : Stepped) → stepped next ≡ begun holes b → (line_of (stepped next) ≡ load_line b) × (next.tables ≡ tables_of holes b)
+pub begun-stored : (holes : ℕ) (b : List ℕ) (next : Stepped Refusal) → stepped number next ≡ begun holes b → (line_of (stepped number next) ≡ load_line b) × (next.tables ≡ tables_of holes b)
 begun-stored holes b next e = (ap line_of e ∙ begun-line holes b, ap (λ (x : Step). x.tables) e)

@@ -8,6 +8,8 @@ use seplogic.Ra.Ura.{Ura}
 use base.Logic.{SProp, ent, sep}
 use contract.Lifetimes.{Lfts}
 use contract.Monad.{Fun, fact}
+use denote.RattleType.{RattleType}
+use denote.Param.Laws.{Laws, IsCopy}
 use denote.Triple.Clauses.{Clauses, AtExit}
 use denote.Triple.Entry.{Args}
 use types.Logic.{Logic}
@@ -38,8 +40,10 @@ load-lowest-only κs image r s end end' p q = load-only κs (LowestStart, (image
 pub step-only : OneAnswer step.Post
 step-only κs given r s end end' p q = stepped-once r s (p ∙ sym q)
 
-pub line-only : OneAnswer line.Post
-line-only κs given r s end end' p q = one_answer r s _ p q
+-- whatever refuses: a refusal, or any number
+pub line-only : (N : RattleType) (laws : Laws N) (copy : IsCopy N) (by : _) (dict : _) (clone : _) (cloned : _)
+    → OneAnswer (line.Post N laws copy by dict clone cloned)
+line-only N laws copy by dict clone cloned κs given r s end end' p q = one_answer r s _ p q
 
 pub check-only : OneAnswer check.Post
 check-only κs given r s end end' p q = p ∙ sym q

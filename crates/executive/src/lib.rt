@@ -9,22 +9,29 @@
 #![tactic(auto)]
 
 ghost use Rattle.std.specs.Prelude.{[], ◌∷◌, ◌≡◌};
-ghost use Rattle.answers.specs.Answer.{refusal_of};
+ghost use Rattle.answers.specs.Answer.{refusal_of, number};
 ghost use Rattle.image.specs.Load.{load_of};
 ghost use Rattle.sealed.specs.Sealed.{block_check};
 ghost use Rattle.pools.specs.Pools.{LowestStart, SmallestHole};
 ghost use Rattle.pools.specs.Rule.{rule_number};
 ghost use Rattle.meaning.specs.Step.{stepped, tables_of, step_of, line_of, load_line};
 
-use answers::Refusal;
+use answers::{Numbered, Refusal};
 use calls::Answer;
 use meaning::Stepped;
 use pools::Rule;
 use tables::Tables;
 
+// What is had after a load or a call: the tables, and the three numbers of the answer.
+#[derive(Clone, Copy)]
+pub struct After {
+    pub tables: Tables,
+    pub answer: Answer,
+}
+
 // Loads an image from any bytes: the tables to begin with, in which grants follow the rule, all zero where it is refused; and the answer, its result M.
 pub fn load(rule: Rule, image: &[u8]) -> Stepped
-    ensures { stepped result ≡ record { tables = tables_of (rule_number rule) image.now; outcome = (load_of image.now).outcome } }
+    ensures { stepped number result ≡ record { tables = tables_of (rule_number rule) image.now; outcome = (load_of image.now).outcome } }
 {
     match image::load(image) {
         Ok(directory) => {
@@ -43,7 +50,7 @@ pub fn load(rule: Rule, image: &[u8]) -> Stepped
 
 // Answers one call, of any bytes, on any tables: refused by 9 where they break the table rules.
 pub fn step(t: Tables, call: &[u8]) -> Stepped
-    ensures { stepped result ≡ step_of t call.now }
+    ensures { stepped number result ≡ step_of t call.now }
 {
     if !rules::holds(t) {
         return Stepped {
@@ -55,18 +62,29 @@ pub fn step(t: Tables, call: &[u8]) -> Stepped
 }
 
 // The three numbers of what a step or a load gives.
-pub fn line(given: Stepped) -> Answer
-    ensures { result.refusal ∷ result.result ∷ result.running ∷ [] ≡ line_of (stepped given) }
+pub fn line<N: Numbered>(given: Stepped<N>) -> Answer
+    ensures { result.refusal ∷ result.result ∷ result.running ∷ [] ≡ line_of (stepped N.numbered given) }
 {
     calls::numbers(given.outcome, given.tables.running)
 }
 
+// A load or a call, whole.
+fn whole(next: Stepped) -> After
+    ensures { (result.answer.refusal ∷ result.answer.result ∷ result.answer.running ∷ [] ≡ line_of (stepped number next)) × (result.tables ≡ next.tables) }
+{
+    After {
+        tables: next.tables,
+        answer: line(next),
+    }
+}
+
 // Stores the tables of a step or a load where they lie, and gives its three numbers.
 fn store(t: &mut Tables, next: Stepped) -> Answer
-    ensures { (result.refusal ∷ result.result ∷ result.running ∷ [] ≡ line_of (stepped next)) × (t.new ≡ next.tables) }
+    ensures { (result.refusal ∷ result.result ∷ result.running ∷ [] ≡ line_of (stepped number next)) × (t.new ≡ next.tables) }
 {
-    *t = next.tables;
-    line(next)
+    let after = whole(next);
+    *t = after.tables;
+    after.answer
 }
 
 // The image check: the number by which loading would refuse the bytes, 0 for none.

@@ -10,6 +10,8 @@ use text::word::Word;
 // What is wrong with a word, or with the line.
 #[derive(Clone, Copy, Debug, PartialEq, Eq)]
 pub enum Fault {
+    // nothing in `compose` makes it; it stays because `refused` answers for it
+    Fine,
     Unknown,
     NotCall,
     Late,
@@ -47,7 +49,7 @@ fn say(rt: HostRuntime, text: &[u8]) {
 }
 
 fn say_number(rt: HostRuntime, number: u64) {
-    say(rt, &decimals::spell(number));
+    say(rt, decimals::spell(number).as_slice());
 }
 
 fn say_line(rt: HostRuntime, number: u64) {

@@ -7,18 +7,18 @@ ghost use Rattle.std.specs.Prelude.{◌≡◌, ◌+◌, ◌≤◌, ◌<◌, leng
 ghost use Rattle.text.specs.Decimals.{spelling};
 ghost use Rattle.lines.specs.Lines.{room, Holds, Adds, Fits, member_of, members_of, answer_of};
 
-use arrayvec::ArrayVec;
 use calls::Answer;
 use std::marker::Model;
+use text::bytes::Bytes;
 use text::decimals;
 
 // How many bytes a line has room for: `room` of specs/Lines.antt.
 const ROOM: usize = 640;
 
 // The bytes so far; a contract sees them as a list.
-#[derive(Debug, Drop)]
+#[derive(Clone, Copy, Debug, PartialEq, Eq)]
 pub struct Line {
-    gathered: ArrayVec<u8, ROOM>,
+    gathered: Bytes<ROOM>,
 }
 
 impl Model for Line {
@@ -26,7 +26,9 @@ impl Model for Line {
 
     ghost Value = { List ℕ };
 
-    ghost view = { λ l. l.gathered.items };
+    ghost view = { λ l. l.gathered };
+
+    ghost inverse = { λ l. record { gathered = l } };
 }
 
 // The three numbers of an answer, with a space between.
@@ -46,7 +48,7 @@ impl Line {
         ensures { Holds result [] 0 }
     {
         Line {
-            gathered: ArrayVec::new(),
+            gathered: Bytes::new(),
         }
     }
 
@@ -57,12 +59,13 @@ impl Line {
     }
 
     // The line with words behind it.
-    pub fn text(mut self, words: &[u8]) -> Line
+    pub fn text(self, words: &[u8]) -> Line
         requires { length self + length words.now ≤ room }
         ensures { Adds self words.now result }
     {
-        self.gathered.try_extend_from_slice(words).unwrap();
-        self
+        Line {
+            gathered: self.gathered.with(words),
+        }
     }
 
     // The line with a name behind it, and a number behind that.
@@ -71,7 +74,7 @@ impl Line {
         ensures { Fits self (name.now ++ spelling value) (length name.now + 20) result }
     {
         let number = decimals::spell(value);
-        self.text(name).text(&number)
+        self.text(name).text(number.as_slice())
     }
 
     // The line with the members of a set behind it, by number, each behind a space.

@@ -3,6 +3,7 @@ use mathlib.Core.Path.{◌≡◌, ap}
 use Prim.Native.Nat.{ℕ}
 use Rattle.std.specs.Prelude.{Result}
 use Rattle.answers.specs.declared.Refusal.{Refusal}
+use Rattle.answers.specs.Answer.{number}
 use Rattle.answers.proofs.Cases.{answered-once}
 use Rattle.tables.specs.declared.Tables.{Tables}
 use Rattle.tables.specs.State.{State}
@@ -32,10 +33,10 @@ pub call-once : {t u : Tables} {state : Call → State} → ((c : Call) → Show
 call-once p q = shown-once (p no_call) (q no_call)
 
 -- a step is that of one value of the code
-abbrev of_parts : Tables → Result ℕ Refusal → Stepped
+abbrev of_parts : Tables → Result ℕ Refusal → Stepped Refusal
 of_parts t o = record { tables = t; outcome = o }
 
-pub stepped-once : (r s : Stepped) → stepped r ≡ stepped s → r ≡ s
+pub stepped-once : (r s : Stepped Refusal) → stepped number r ≡ stepped number s → r ≡ s
 stepped-once r s e =
     let tables = ap (λ (x : Step). x.tables) e in
     let outcome = answered-once r.outcome s.outcome (ap (λ (x : Step). x.outcome) e) in

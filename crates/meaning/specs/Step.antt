@@ -16,9 +16,9 @@ pub record Step : Type 0 where
   pub tables : Tables
   pub outcome : Outcome
 
--- the step that the code gives
-abbrev pub stepped : Stepped → Step
-stepped r = record { tables = r.tables; outcome = answered r.outcome }
+-- the step that the code gives, with the number of what refuses it
+abbrev pub stepped : {N : Type 0} → (N → ℕ) → Stepped N → Step
+stepped numbered r = record { tables = r.tables; outcome = answered numbered r.outcome }
 
 -- "A refused call has result 0, leaves every table as it found it"
 unfoldable pub refused : Tables → ℕ → Step

@@ -13,9 +13,10 @@ pub struct Given {
     pub result: u8,
 }
 
-// What a step gives: the tables as it leaves them, and the answer. The third number of the answer is the task that runs in them.
+// What a step gives: the tables as it leaves them, and the answer. The third number of the answer is the task that runs in them. It is refused by a `Refusal`,
+// or, where a caller keeps numbers, by any number.
 #[derive(Clone, Copy)]
-pub struct Stepped {
+pub struct Stepped<N = Refusal> {
     pub tables: Tables,
-    pub outcome: Result<u8, Refusal>,
+    pub outcome: Result<u8, N>,
 }

@@ -42,6 +42,7 @@ pub fn number(line: &[u8], w: Word, most: u64) -> Result<u64, NumberError>
 }
 
 // The set with the events from `first` to `last` in it.
+#[tactic(auto, using(crate::proofs::Ranges::ranged_none, crate::proofs::Ranges::ranged_in))]
 pub fn with_range(set: u64, first: u64, last: u64) -> u64
     requires { last < 64 }
     ensures { result ≡ ranged set first (last + 1) }

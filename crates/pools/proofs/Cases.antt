@@ -3,7 +3,8 @@ use mathlib.Core.Path.{◌≡◌}
 use mathlib.Core.Logic.{⊎_elim}
 use Prim.Native.Nat.{ℕ, ◌≤◌, ◌<◌}
 use native.Mathlib.Omega.{arith}
-use borrow.Author.Tests.{lt-ltb}
+use borrow.Author.Tests.{lt-ltb, le-ltb}
+use Rattle.std.specs.Prelude.{Some, None}
 use Rattle.words.proofs.Places.{under-or-from}
 use Rattle.pools.specs.Pools.{start_of}
 use Rattle.pools.specs.Find.{start_in, found_at, found_of}
@@ -16,3 +17,9 @@ start-in a h =
 pub found-start : (holes granted n : ℕ) → start_in (found_of holes granted n) ≡ start_of holes granted n
 unfolding found_of
 found-start holes granted n = start-in (start_of holes granted n) (start-most holes granted n)
+
+pub at : (a : ℕ) → a < 64 → found_at a ≡ Some a
+at a l = rw (lt-ltb a 64 l)
+
+pub nowhere : (a : ℕ) → 64 ≤ a → found_at a ≡ None
+nowhere a l = rw (le-ltb a 64 l)

@@ -13,9 +13,13 @@ reading_of t k = (task_at (read t) k).since
 
 -- ---- The readings that a call has changed.
 
--- " 4@17" where the reading 17 of block 4 is another than before: 32 is the byte of a space, 64 that of @
+-- " 4@17": 32 is the byte of a space, 64 that of @
+abbrev pub new_reading : ℕ → ℕ → List ℕ
+new_reading k reading = 32 ∷ (spelling k ++ 64 ∷ spelling reading)
+
+-- the same where the reading 17 of block 4 is another than before
 abbrev pub change_of : ℕ → ℕ → ℕ → List ℕ
-change_of k was is = if eqb was is then [] else 32 ∷ (spelling k ++ 64 ∷ spelling is)
+change_of k was is = if eqb was is then [] else new_reading k is
 
 -- those of the blocks from 1 to n, in block order
 unfoldable pub changed_of : Tables → Tables → ℕ → List ℕ

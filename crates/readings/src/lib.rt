@@ -9,7 +9,7 @@ mod beginners;
 ghost use Rattle.std.specs.Prelude.{◌+◌, ◌≤◌, length};
 ghost use Rattle.lines.specs.Lines.{room, Fits};
 ghost use Rattle.tables.specs.Blocks.{task_blocks};
-ghost use Rattle.readings.specs.Readings.{change_of, changed_of, since_of, begun_of};
+ghost use Rattle.readings.specs.Readings.{new_reading, changed_of, since_of, begun_of};
 
 use lines::Line;
 use tables::Tables;
@@ -23,21 +23,20 @@ pub fn changed(l: Line, before: Tables, after: Tables) -> Line
 {
     let mut line = l;
     for k in 1..=TASK_COUNT {
-        line = change(line, k as u64, before.tasks[k].since, after.tasks[k].since);
+        let is = after.tasks[k].since;
+        if before.tasks[k].since != is {
+            line = change(line, k as u64, is);
+        }
     }
     line
 }
 
-// The line with one of them, where its reading is another.
-fn change(l: Line, k: u64, was: u32, is: u32) -> Line
+// The line with one of them: its block and its reading.
+fn change(l: Line, k: u64, reading: u32) -> Line
     requires { (length l + 24 ≤ room) × (k ≤ task_blocks) }
-    ensures { Fits l (change_of k was is) 14 result }
+    ensures { Fits l (new_reading k reading) 14 result }
 {
-    if was == is {
-        l
-    } else {
-        l.field(b" ", k).field(b"@", u64::from(is))
-    }
+    l.field(b" ", k).field(b"@", u64::from(reading))
 }
 
 // The line with the task blocks behind it that begin to wait, and their reading: "; waiting since 17: 4 7". Nothing where there is none.

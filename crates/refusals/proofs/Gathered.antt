@@ -1,5 +1,5 @@
--- A row that applies is the first of its table, and one that does not is passed over; so it is of the table's parts, which the code asks one after the other. By
--- induction on the rows.
+-- A part of the table that gives a row gives the first, and one that gives none is passed over: so the code asks the parts one after the other. By induction on
+-- the rows.
 use mathlib.Core.Bool.{Bool, true, false}
 use mathlib.Core.Logic.{◌≢◌}
 use mathlib.Core.List.{List, [], ◌∷◌, ◌++◌}
@@ -18,24 +18,6 @@ use Rattle.tables.specs.State.{State}
 use Rattle.calls.specs.declared.Call.{Call}
 use Rattle.meaning.specs.Refusals.{call_rows}
 use Rattle.refusals.specs.Parts.{rows_to, rows_from, code_rows, named_rows, carried_rows, condition_rows, room_rows}
-
--- ---- One row, asked alone with the test q, which is its test p in the table.
-
--- it applies, and what it gives is the first of the table
-pub stops : (n : ℕ) {k : ℕ} {p q : Bool} (l : List Row) → k ≡ first_of (n when q ∷ []) → k ≢ 0 → q ≡ p → k ≡ first_of (n when p ∷ l)
-unfolding first_of
-stops n {p = true} l e some same = rw same at e
-stops n {p = false} l e some same = absurd (some (rw same at e))
-
--- it does not apply, and the later rows decide
-pub lets : {p q : Bool} (l : List Row) (by : Refusal) → 0 ≡ first_of (number by when q ∷ []) → q ≡ p → first_of l ≡ first_of (number by when p ∷ l)
-unfolding first_of
-lets {p = true} l by e same = absurd (number-some by (sym (rw same at e)))
-lets {p = false} l by e same = refl
-
--- it is the last of the table
-pub ends : (n : ℕ) {k : ℕ} {p q : Bool} → k ≡ first_of (n when q ∷ []) → q ≡ p → k ≡ first_of (n when p ∷ [])
-ends n e same = rw same at e
 
 -- ---- The table in its parts.
 all-numbered : (l : List Row) → no_zero l ≡ true → Numbered l

@@ -6,9 +6,9 @@
 
 mod tests;
 
-ghost use Rattle.std.specs.Prelude.{[], ◌∷◌, ◌≡◌};
-ghost use Rattle.words.specs.Rows.{◌when◌, first_of};
-ghost use Rattle.answers.specs.Answer.{number, refused_by};
+ghost use Rattle.std.specs.Prelude.{◌≡◌, true, false, MatchResult};
+ghost use Rattle.words.specs.Rows.{first_of};
+ghost use Rattle.answers.specs.Answer.{refused_by};
 ghost use Rattle.tables.specs.State.{read};
 ghost use Rattle.meaning.specs.Refusals.{call_rows};
 ghost use Rattle.refusals.specs.Parts.{code_rows, named_rows, carried_rows, condition_rows, room_rows};
@@ -37,6 +37,7 @@ pub fn check(t: Tables, c: Call) -> Result<(), Refusal>
 }
 
 // The code and its caller.
+#[tactic(auto, unfolding(meaning::specs::Refusals::call_rows, crate::specs::Parts::rows_to, words::specs::Rows::first_of))]
 fn by_code(t: Tables, c: Call) -> Result<(), Refusal>
     ensures { refused_by result ≡ first_of (code_rows (read t) c) }
 {
@@ -46,6 +47,7 @@ fn by_code(t: Tables, c: Call) -> Result<(), Refusal>
 }
 
 // What the call names.
+#[tactic(auto, unfolding(meaning::specs::Refusals::call_rows, crate::specs::Parts::rows_to, crate::specs::Parts::rows_from, words::specs::Rows::first_of))]
 fn by_names(t: Tables, c: Call) -> Result<(), Refusal>
     ensures { refused_by result ≡ first_of (named_rows (read t) c) }
 {
@@ -56,6 +58,7 @@ fn by_names(t: Tables, c: Call) -> Result<(), Refusal>
 }
 
 // What it carries.
+#[tactic(auto, unfolding(meaning::specs::Refusals::call_rows, crate::specs::Parts::rows_to, crate::specs::Parts::rows_from, words::specs::Rows::first_of))]
 fn by_carried(t: Tables, c: Call) -> Result<(), Refusal>
     ensures { refused_by result ≡ first_of (carried_rows (read t) c) }
 {
@@ -67,6 +70,7 @@ fn by_carried(t: Tables, c: Call) -> Result<(), Refusal>
 }
 
 // Its condition.
+#[tactic(auto, unfolding(meaning::specs::Refusals::call_rows, crate::specs::Parts::rows_to, crate::specs::Parts::rows_from, words::specs::Rows::first_of, meaning::specs::Conditions::undefined_in))]
 fn by_condition(t: Tables, c: Call) -> Result<(), Refusal>
     ensures { refused_by result ≡ first_of (condition_rows (read t) c) }
 {
@@ -79,6 +83,7 @@ fn by_condition(t: Tables, c: Call) -> Result<(), Refusal>
 }
 
 // What the tables still have.
+#[tactic(auto, unfolding(meaning::specs::Refusals::call_rows, crate::specs::Parts::rows_from, words::specs::Rows::first_of))]
 fn by_room(t: Tables, c: Call) -> Result<(), Refusal>
     ensures { refused_by result ≡ first_of (room_rows (read t) c) }
 {
@@ -92,7 +97,7 @@ fn by_room(t: Tables, c: Call) -> Result<(), Refusal>
 
 // One row: the refusal, where it applies.
 fn refuse(applies: bool, by: Refusal) -> Result<(), Refusal>
-    ensures { refused_by result ≡ first_of (number by when applies ∷ []) }
+    ensures { MatchResult result (λ u. applies ≡ false) (λ e. (applies ≡ true) × (e ≡ by)) }
 {
     if applies { Err(by) } else { Ok(()) }
 }

@@ -1,5 +1,6 @@
 // One call, whole, on tables that follow the rules.
 ghost use Rattle.std.specs.Prelude.{◌≡◌};
+ghost use Rattle.answers.specs.Answer.{number};
 ghost use Rattle.meaning.specs.Step.{stepped, step_of};
 ghost use Rattle.lawful.specs.Tables.{LawfulTables};
 
@@ -14,7 +15,7 @@ use tables::Tables;
 // the best level that is ready is dispatched.
 pub fn call(t: Tables, bytes: &[u8]) -> Stepped
     requires { LawfulTables t }
-    ensures { stepped result ≡ step_of t bytes.now }
+    ensures { stepped number result ≡ step_of t bytes.now }
 {
     let Ok(c) = Call::try_from(bytes) else {
         return Stepped {

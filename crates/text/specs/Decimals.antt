@@ -1,6 +1,5 @@
 -- Numbers in decimal: what bytes mean as a number, and how a number is spelled. 48 is the byte of the digit 0.
 use Rattle.std.specs.Prelude.{Bool, not, ◌&&◌, ◌||◌, List, [], ◌∷◌, ◌++◌, ◌≡◌, ℕ, zero, suc, ◌+◌, ◌-◌, ◌*◌, ◌/◌, ◌%◌, ◌≤◌, eqb, leb, ltb, length, get_or, Result, Ok, Err, if◌then◌else◌}
-use Rattle.arrayvec.specs.ArrayVec.{ArrayVec}
 use Rattle.words.specs.Words.{all_of}
 use Rattle.text.specs.declared.decimals.NumberError.{NumberError}
 use Rattle.text.specs.declared.decimals.NumberError.TheVariants.{TooLarge, NotANumber}
@@ -44,6 +43,6 @@ unfoldable pub plain : List ℕ → Bool
 plain l = all_digits l && (eqb (length l) 1 || not (eqb (get_or l 0 0) 48))
 
 -- r is a number in decimal, in at most 20 digits
-pub record Spells (n : ℕ) (r : ArrayVec ℕ) : Type 0 where
-  pub text : r.items ≡ spelling n
-  pub few : length r.items ≤ 20
+pub record Spells (n : ℕ) (r : List ℕ) : Type 0 where
+  pub text : r ≡ spelling n
+  pub few : length r ≤ 20

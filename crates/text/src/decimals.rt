@@ -2,7 +2,7 @@
 ghost use Rattle.std.specs.Prelude.{◌≡◌, ◌+◌, ◌*◌, leb};
 ghost use Rattle.text.specs.Decimals.{all_digits, value_of, at_most, number_of, plain as is_plain, Spells};
 
-use arrayvec::ArrayVec;
+use crate::bytes::Bytes;
 
 // Why bytes are not the number that is asked for.
 #[derive(Clone, Copy, Debug, PartialEq, Eq)]
@@ -58,13 +58,14 @@ pub fn read(bytes: &[u8], most: u64) -> Result<u64, NumberError>
     }
 }
 
+// The digits of a number.
+pub type Spelled = Bytes<20>;
+
 // A number in decimal.
-pub fn spell(n: u64) -> ArrayVec<u8, 20>
+pub fn spell(n: u64) -> Spelled
     ensures { Spells n result }
 {
-    let mut digits = [0; 20];
-    let count = io::decimal(n, &mut digits);
-    let mut spelled = ArrayVec::from(digits);
-    spelled.truncate(count);
-    spelled
+    let mut bytes = [0; 20];
+    let count = io::decimal(n, &mut bytes);
+    Bytes { bytes, used: count }
 }

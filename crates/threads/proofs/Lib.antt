@@ -13,6 +13,7 @@ pub mod Moves
 pub mod Entering
 pub mod Zeros
 pub mod Unique
+pub mod ByKeys
 pub mod Queues
 pub mod Tests
 pub mod Standing

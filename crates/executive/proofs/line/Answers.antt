@@ -4,4 +4,4 @@ use Rattle.executive.proofs.line.Goals as goal
 
 pub returns : goal.returns
 unfolding line_of
-returns c = c.numbers.ensures
+returns g c = c.numbers.ensures

@@ -35,5 +35,5 @@ returns-then-not-clear c =
 
 pub returns : goal.returns
 returns c =
-    let sound = c.in_ok-check-2.ensures ∙ ap (λ (d : Directory). first_of (directory_rows d)) c.directory-directory.ensures in
-    rw (load-accepted c.args.bytes.now (sym (refuses-none c.args.bytes.now (sym c.in_ok-check.ensures) (sym sound) (sym c.clear.ensures ∙ c.if-not-clear.false))), c.directory-directory.ensures)
+    let formed = c.in_ok-check-2.ensures ∙ ap (λ (d : Directory). first_of (directory_rows d)) c.directory-directory.ensures in
+    rw (load-accepted c.args.bytes.now (sym (refuses-none c.args.bytes.now (sym c.in_ok-check.ensures) (sym formed) (sym c.clear.ensures ∙ c.if-not-clear.false))), c.directory-directory.ensures)
